@@ -1,0 +1,5 @@
+pub mod Laws
+pub mod Chains
+pub mod Tested
+pub mod Computing
+pub mod Marked

@@ -1,0 +1,74 @@
+-- Document 01, "Calls": begin, cancel and tick where they are accepted, and every call as one type.
+use mathlib.Core.Bool.{Bool, true, false, cond, _&&_}
+use mathlib.Core.List.{List}
+use Prim.Native.Nat.{ℕ}
+use lib.Dec.{leb}
+use Rattle.model.specs.declared.Flags.{Flags}
+use Rattle.model.specs.declared.Operation.{Operation}
+use Rattle.model.specs.declared.Thread.{Thread}
+use Rattle.model.specs.declared.Table.{Table}
+use Rattle.model.specs.declared.Answer.{Answer}
+use Rattle.model.specs.declared.Answer.the-variants.{Accepted, Marked, NothingToCancel}
+use Rattle.model.specs.Waiting.{ticks, fall, hasReceive, firstTime}
+use Rattle.model.specs.Threads.{running, noReceiver, codeOnly, Phase, lock, look, at, edit, editBelow, withFlags, entering, withOp, withLeft, withOutcome, marked, ended, joined, zeroed}
+use Rattle.model.specs.Step.{decide, answerOf, act, storeAfter}
+
+-- ---- begin
+-- "sets `ipc`. A send part sets `send`, clears `poll` .. A receive part sets `receiving` already now"
+unfoldable pub begunFlags : Operation → Flags
+begunFlags o = record { ipc = true; send = o .send .present; receiving = hasReceive (o .receive); poll = false; mark = false }
+
+-- a thread that begins o in phase p: "`left` comes from the send code, else the receive code"; code 1, source 255, count 0
+unfoldable pub begun : Operation → Phase → Thread → Thread
+begun o p h = entering p (withFlags (begunFlags o) (withOp o (withLeft (ticks (firstTime o)) (withOutcome (codeOnly running) h))))
+
+-- "a target of N or more"
+unfoldable pub targetBeyond : ℕ → Operation → Bool
+targetBeyond n o = o .send .present && leb n (o .send .target)
+
+-- "joins the end of the target's queue; phase lock"; "without a send part: phase look"; "a target of N or more ends the whole operation with -2, idle"
+unfoldable pub beginTable : ℕ → Operation → Table → Table
+beginTable x o t =
+    cond (targetBeyond (t .n) o) (edit x (ended (codeOnly noReceiver)) t)
+    (cond (o .send .present) (edit x (begun o lock) (edit (o .send .target) (joined x) t))
+    (edit x (begun o look) t))
+
+-- ---- cancel: "sets `mark` if `ipc` is set and answers marked (also the second time); else it answers nothing to cancel"
+unfoldable pub cancelTable : ℕ → Table → Table
+cancelTable x t = cond (at t x .flags .ipc) (edit x marked t) t
+
+unfoldable pub cancelAnswer : ℕ → Table → Answer
+cancelAnswer x t = cond (at t x .flags .ipc) Marked NothingToCancel
+
+-- ---- tick: "lowers `left` by one in each thread with `ipc`, unless 0 or never. It ignores locks"
+unfoldable pub ticked : Thread → Thread
+ticked h = withLeft (cond (h .flags .ipc) (fall (h .left)) (h .left)) h
+
+unfoldable pub tickTable : Table → Table
+tickTable t = editBelow (t .n) ticked t
+
+-- ---- the calls of a trace, with their arguments
+pub data Call : Type 0 where
+  begin : ℕ → Operation → Call
+  step : ℕ → Call
+  cancel : ℕ → Call
+  tick : Call
+
+-- the table and the caller's word store
+pub record State : Type 0 where
+  pub table : Table
+  pub store : List ℕ
+
+-- what an accepted call answers
+unfoldable pub acceptedAnswer : Call → State → Answer
+acceptedAnswer (begin x o) s = Accepted
+acceptedAnswer (step x) s = answerOf (decide (s .table) x)
+acceptedAnswer (cancel x) s = cancelAnswer x (s .table)
+acceptedAnswer tick s = Accepted
+
+-- what an accepted call leaves; begin "zeroes the thread's eight words"
+unfoldable pub acceptedState : Call → State → State
+acceptedState (begin x o) s = record { table = beginTable x o (s .table); store = zeroed x (s .store) }
+acceptedState (step x) s = let a = decide (s .table) x in record { table = act a x (s .table); store = storeAfter a (at (s .table) x) (s .store) }
+acceptedState (cancel x) s = record { table = cancelTable x (s .table); store = s .store }
+acceptedState tick s = record { table = tickTable (s .table); store = s .store }

@@ -1,0 +1,14 @@
+pub mod Lists
+pub mod Waiting
+pub mod Threads
+pub mod WellFormed
+pub mod Step
+pub mod Calls
+pub mod Refusals
+pub mod Promise
+pub mod Atomic
+pub mod Linearization
+pub mod Order
+pub mod Schedule
+pub mod Bondtrace
+pub mod Marked

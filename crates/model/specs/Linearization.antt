@@ -1,0 +1,200 @@
+-- Demand 3: for every trace from a new table there is one order of whole events that no user can tell from it.
+use mathlib.Core.Path.{_≡_}
+use mathlib.Core.Logic.{_≢_, _⊎_}
+use mathlib.Core.Bool.{Bool, true, false, cond, _&&_, _||_}
+use mathlib.Core.Option.{Option, none, some, Option·getD}
+use mathlib.Core.List.{List, [], _∷_, map, reverse}
+use Prim.Native.Nat.{ℕ, _*_, _≤_, _<_}
+use lib.ListN.{length}
+use lib.Dec.{eqb}
+use lib.IntN.{ℤ}
+use Rattle.model.specs.declared.Operation.{Operation}
+use Rattle.model.specs.declared.Answer.{Answer}
+use Rattle.model.specs.declared.Answer.the-variants.{Accepted, Marked, NothingToCancel}
+use Rattle.model.specs.Lists.{bit, occurs}
+use Rattle.model.specs.Waiting.{hasReceive}
+use Rattle.model.specs.Threads.{done, running, receiveTimeOver, receiveCancelled, sameCode, newTable}
+use Rattle.model.specs.Calls.{Call, begin, step, cancel, tick, State}
+use Rattle.model.specs.Promise.{Promise, state, view, refusalOf}
+use Rattle.model.specs.Atomic.{Atomic, Machine, firstMachine, Event, begins, cancels, ticksOn, rendezvous, aborts, play, Reply, accepted, marked, nothingToCancel, reply, shows, isReceiving, Can}
+
+-- ---- traces
+-- a call, what it answered, and the table and store that it left
+pub record Observed : Type 0 where
+  pub call : Call
+  pub answer : Answer
+  pub after : State
+
+-- each call gets the table and the store as the one before it left them, and keeps its promise
+abbrev pub Trace : State → List Observed → Type 0
+Trace s [] = Unit {0}
+Trace s (c ∷ cs) = Promise (c .call) s (c .answer) (c .after) × Trace (c .after) cs
+
+-- ---- an order: for each call of the trace one whole event, or none
+abbrev pub Entry : Type 0
+Entry = Option Event
+
+-- `past` is the order up to some call, the newest entry first: an entry's place is the number of entries behind it
+abbrev pub playEntry : ℕ → Entry → Machine → Machine
+playEntry n none p = p
+playEntry n (some e) p = play n e p
+
+-- the atomic machine after the entries of `past`
+unfoldable pub played : ℕ → List Entry → Machine
+played n [] = firstMachine
+played n (e ∷ past) = playEntry n e (played n past)
+
+-- ---- what stands at the place of a call
+-- the atomic machine's answer as the step machine gives it
+abbrev pub answered : Reply → Answer
+answered accepted = Accepted
+answered marked = Marked
+answered nothingToCancel = NothingToCancel
+
+-- the call's own event, and both machines answer alike
+pub record OwnEvent (own : Event) (a : Answer) (e : Entry) (p : Machine) : Type 0 where
+  pub event : e ≡ some own
+  pub answer : a ≡ answered (reply own p)
+
+-- at a step: nothing, a rendezvous or an abort; "Steps' answers are not seen"
+abbrev pub AtStep : Entry → Type 0
+AtStep none = Unit {0}
+AtStep (some (begins x o)) = ⊥
+AtStep (some (cancels x)) = ⊥
+AtStep (some ticksOn) = ⊥
+AtStep (some (rendezvous s r)) = Unit {0}
+AtStep (some (aborts x c)) = Unit {0}
+
+-- "an accepted begin, cancel or tick is its own event"
+abbrev pub AtAccepted : Call → Answer → Entry → Machine → Type 0
+AtAccepted (begin x o) a e p = OwnEvent (begins x o) a e p
+AtAccepted (step x) a e p = AtStep e
+AtAccepted (cancel x) a e p = OwnEvent (cancels x) a e p
+AtAccepted tick a e p = OwnEvent ticksOn a e p
+
+-- "a refused call is none"
+abbrev pub AtCall : Option ℕ → Call → Answer → Entry → Machine → Type 0
+AtCall (some g) c a e p = e ≡ none
+AtCall none c a e p = AtAccepted c a e p
+
+-- "each event's conditions hold where it stands"
+abbrev pub Lawful : ℕ → Entry → Machine → Type 0
+Lawful n none p = Unit {0}
+Lawful n (some e) p = Can n e p
+
+-- ---- operations, known by the place of their begin
+abbrev pub beginsBy : ℕ → Entry → Bool
+beginsBy x none = false
+beginsBy x (some (begins y o)) = eqb y x
+beginsBy x (some (cancels y)) = false
+beginsBy x (some ticksOn) = false
+beginsBy x (some (rendezvous s r)) = false
+beginsBy x (some (aborts y c)) = false
+
+-- thread x's latest operation
+unfoldable pub latest : ℕ → List Entry → Option ℕ
+latest x [] = none
+latest x (e ∷ past) = cond (beginsBy x e) (some (length past)) (latest x past)
+
+abbrev pub isRunning : Machine → ℕ → Bool
+isRunning p x = sameCode running (p x .outcome .code)
+
+-- an operation of x ends at entry e: it began with e or was running, and no longer runs
+pub record EndsAt (n x : ℕ) (e : Entry) (past : List Entry) : Type 0 where
+  pub ran : (beginsBy x e || isRunning (played n past) x) ≡ true
+  pub over : isRunning (played n (e ∷ past)) x ≡ false
+
+-- the operation of x that began at place i has its ending in `past`
+abbrev pub HasEnded : ℕ → ℕ → ℕ → List Entry → Type 0
+HasEnded n x i [] = ⊥
+HasEnded n x i (e ∷ past) = (EndsAt n x e past × (latest x (e ∷ past) ≡ some i)) ⊎ HasEnded n x i past
+
+-- ---- one call c, with the entry e in its place, after `past`
+pub record Follows (n : ℕ) (past : List Entry) (c : Observed) (e : Entry) : Type 0 where
+  pub place : AtCall (refusalOf (c .answer)) (c .call) (c .answer) e (played n past)
+  pub lawful : Lawful n e (played n past)
+  -- "after every call, each thread's code, source and count in the table and its first `count` words in the store"
+  pub views : (x : ℕ) → x < n → view (c .after) x ≡ shows (played n (e ∷ past)) x
+  -- an ending stands no earlier than its operation's begin
+  pub begun : (x : ℕ) → x < n → EndsAt n x e past → (i : ℕ) × (latest x (e ∷ past) ≡ some i)
+  -- and no later than the call that first shows it
+  pub shown : (x : ℕ) → x < n → (i : ℕ) → latest x (e ∷ past) ≡ some i → view (c .after) x .outcome .code ≢ running → HasEnded n x i (e ∷ past)
+
+-- call by call, in calling order
+abbrev pub FollowsAll : ℕ → List Entry → List Observed → List Entry → Type 0
+FollowsAll n past [] [] = Unit {0}
+FollowsAll n past [] (e ∷ es) = ⊥
+FollowsAll n past (c ∷ cs) [] = ⊥
+FollowsAll n past (c ∷ cs) (e ∷ es) = Follows n past c e × FollowsAll n (e ∷ past) cs es
+
+-- ---- "Each completed one is in exactly one meeting as s, or as r"
+-- the rendezvous of an order, each by the begins of its two operations
+unfoldable pub pairs : List Entry → List (ℕ × ℕ)
+pairs [] = []
+pairs (none ∷ past) = pairs past
+pairs (some (begins x o) ∷ past) = pairs past
+pairs (some (cancels x) ∷ past) = pairs past
+pairs (some ticksOn ∷ past) = pairs past
+pairs (some (rendezvous s r) ∷ past) = (Option·getD (latest s past) 0, Option·getD (latest r past) 0) ∷ pairs past
+pairs (some (aborts x c) ∷ past) = pairs past
+
+abbrev pub isPlace : Option ℕ → ℕ → Bool
+isPlace none i = false
+isPlace (some k) i = eqb k i
+
+-- how x stood when its operation that began at place i was last its latest one: now, or right before its next begin
+unfoldable pub fate : ℕ → ℕ → ℕ → List Entry → Option Atomic
+fate n x i [] = none
+fate n x i (e ∷ past) = let before = fate n x i past in cond (isPlace (latest x (e ∷ past)) i) (some (played n (e ∷ past) x)) before
+
+-- "A send part is completed if its operation ended with 0, -5 or -3, or is now receiving"
+abbrev pub sendCompleted : Operation → Option Atomic → Bool
+sendCompleted o none = false
+sendCompleted o (some p) =
+    o .send .present
+    && (sameCode done (p .outcome .code) || sameCode receiveCancelled (p .outcome .code) || sameCode receiveTimeOver (p .outcome .code) || isReceiving (p .run))
+
+-- "a receive part if its operation ended with 0"
+abbrev pub receiveCompleted : Operation → Option Atomic → Bool
+receiveCompleted o none = false
+receiveCompleted o (some p) = hasReceive (o .receive) && sameCode done (p .outcome .code)
+
+-- the entry at place i is x's begin of o
+abbrev pub BeginsAt : ℕ → Operation → ℕ → List Entry → Type 0
+BeginsAt x o i [] = ⊥
+BeginsAt x o i (e ∷ past) = ((e ≡ some (begins x o)) × (length past ≡ i)) ⊎ BeginsAt x o i past
+
+abbrev pub Among : ℕ × ℕ → List (ℕ × ℕ) → Type 0
+Among pair [] = ⊥
+Among pair (a ∷ l) = (pair ≡ a) ⊎ Among pair l
+
+-- a rendezvous is of a completed send part and of a completed receive part of its target
+pub record Match (n i j : ℕ) (past : List Entry) : Type 0 where
+  pub sender : ℕ
+  pub receiver : ℕ
+  pub sent : Operation
+  pub received : Operation
+  pub sends : BeginsAt sender sent i past
+  pub receives : BeginsAt receiver received j past
+  pub target : sent .send .target ≡ receiver
+  pub sendDone : sendCompleted sent (fate n sender i past) ≡ true
+  pub receiveDone : receiveCompleted received (fate n receiver j past) ≡ true
+
+-- as sender an operation is in one rendezvous if its send part is completed and in none if not; likewise as receiver
+pub record Paired (n : ℕ) (past : List Entry) : Type 0 where
+  pub sends : (x : ℕ) (o : Operation) (i : ℕ) → x < n → BeginsAt x o i past → occurs i (map (λ pair. pair .0) (pairs past)) ≡ bit (sendCompleted o (fate n x i past))
+  pub receives : (x : ℕ) (o : Operation) (i : ℕ) → x < n → BeginsAt x o i past → occurs i (map (λ pair. pair .1) (pairs past)) ≡ bit (receiveCompleted o (fate n x i past))
+  pub matched : (i j : ℕ) → Among (i, j) (pairs past) → Match n i j past
+
+-- ---- the demand
+-- no user can tell the order from the trace
+pub record Linearizes (n : ℕ) (trace : List Observed) (order : List Entry) : Type 0 where
+  pub follows : FollowsAll n [] trace order
+  pub paired : Paired n (reverse order)
+
+-- "a new table of any N from 1 to 32 and a store of 8×N words, whatever they hold"
+abbrev pub Demand3 : Type 0
+Demand3 =
+    (n : ℕ) → 1 ≤ n → n ≤ 32 → (store : List ℕ) → length store ≡ 8 * n
+    → (trace : List Observed) → Trace (state (newTable n) store) trace
+    → (order : List Entry) × Linearizes n trace order

@@ -1,0 +1,263 @@
+-- Document 01, "Marked meetings": P1 to P12 as rows of a single table. `proofs/Marked` works each row out from the step rules.
+use mathlib.Core.Bool.{Bool, true, false}
+use mathlib.Core.Option.{Option, none, some}
+use mathlib.Core.List.{List, [], _∷_, _++_}
+use Prim.Native.Nat.{ℕ, _-_, _*_}
+use lib.ListN.{length, replicate}
+use lib.Dec.{eqb}
+use Rattle.model.specs.declared.Flags.{Flags}
+use Rattle.model.specs.declared.Receive.{Receive}
+use Rattle.model.specs.declared.Receive.the-variants.{Absent, Open, Closed}
+use Rattle.model.specs.declared.Operation.{Operation}
+use Rattle.model.specs.declared.Outcome.{Outcome}
+use Rattle.model.specs.declared.Thread.{Thread}
+use Rattle.model.specs.declared.Answer.{Answer}
+use Rattle.model.specs.declared.Answer.the-variants.{Refused, Accepted, Marked, Moved, Idle, Held, Asleep}
+use Rattle.model.specs.Lists.{upTo}
+use Rattle.model.specs.Threads.{done, running, neverBegun, noReceiver, receiveTimeOver, sendTimeOver, receiveCancelled, sendCancelled, nobody, codeOnly, Phase, idle, lock, check, release, look, phaseOf, newTable, noFlags, at, senders}
+use Rattle.model.specs.Calls.{Call, begin, step, cancel, tick, State}
+use Rattle.model.specs.Promise.{state, answer, next}
+use Rattle.model.specs.Atomic.{begins, cancels, ticksOn, rendezvous, aborts}
+use Rattle.model.specs.Linearization.{Entry}
+use Rattle.model.specs.Order.{order}
+
+-- what a row shows of a thread
+pub record Seen : Type 0 where
+  pub phase : Phase
+  pub flags : Flags
+  pub owner : ℕ
+  pub queue : List ℕ
+  pub outcome : Outcome
+
+-- what a row's calls answer and leave, and the event at each place
+pub record Result : Type 0 where
+  pub answers : List Answer
+  pub threads : List Seen
+  pub store : List ℕ
+  pub order : List Entry
+
+-- the calls on a new table of n threads, with a store of sevens
+pub record MarkedRow : Type 0 where
+  pub n : ℕ
+  pub calls : List Call
+  pub result : Result
+
+-- ---- working a row out
+unfoldable pub answersOf : State → List Call → List Answer
+answersOf s [] = []
+answersOf s (c ∷ cs) = let after = next c s in answer c s ∷ answersOf after cs
+
+unfoldable pub run : State → List Call → State
+run s [] = s
+run s (c ∷ cs) = let after = next c s in run after cs
+
+unfoldable pub seen : Thread → Seen
+seen h = record { phase = phaseOf (h .phase); flags = h .flags; owner = h .owner; queue = senders h; outcome = h .outcome }
+
+unfoldable pub workedOut : MarkedRow → Result
+workedOut row =
+    let first = state (newTable (row .n)) (replicate (8 * row .n) 7) in
+    let last = run first (row .calls) in
+    record {
+      answers = answersOf first (row .calls);
+      threads = upTo (row .n) (λ x. seen (at (last .table) x));
+      store = last .store;
+      order = order first (row .calls);
+    }
+
+-- ---- short forms that the rows are written in
+-- a send of some words, then a receive part
+abbrev pub sendTo : ℕ → List ℕ → ℕ → Receive → Operation
+sendTo target words time receive = record {
+  send = record { present = true; target = target; count = length words; time = time; words = words ++ replicate (8 - length words) 0 };
+  receive = receive;
+}
+
+abbrev pub receiveOnly : Receive → Operation
+receiveOnly receive = record { send = record { present = false; target = 0; count = 0; time = 0; words = replicate 8 0 }; receive = receive }
+
+abbrev pub openFor : ℕ → Receive
+openFor time = Open (record { time = time; partner = 0 })
+
+abbrev pub closedFor : ℕ → ℕ → Receive
+closedFor partner time = Closed (record { time = time; partner = partner })
+
+abbrev pub steps : ℕ → ℕ → List Call
+steps k x = replicate k (step x)
+
+-- ipc, send, receiving, poll, mark as 0 or 1
+abbrev pub flags : ℕ → ℕ → ℕ → ℕ → ℕ → Flags
+flags i s r p m = record { ipc = eqb i 1; send = eqb s 1; receiving = eqb r 1; poll = eqb p 1; mark = eqb m 1 }
+
+-- phase, flags, lock owner, queue, outcome
+abbrev pub thread : Phase → Flags → ℕ → List ℕ → Outcome → Seen
+thread p f owner queue outcome = record { phase = p; flags = f; owner = owner; queue = queue; outcome = outcome }
+
+-- idle, no flag, a free lock, an empty queue
+abbrev pub resting : Outcome → Seen
+resting outcome = thread idle noFlags nobody [] outcome
+
+abbrev pub receivedFrom : ℕ → ℕ → Outcome
+receivedFrom source count = record { code = done; source = source; count = count }
+
+-- eight words of the store in front of the rest: as they were at first, or two words and six zeros
+abbrev pub untouched : List ℕ → List ℕ
+untouched rest = 7 ∷ 7 ∷ 7 ∷ 7 ∷ 7 ∷ 7 ∷ 7 ∷ 7 ∷ rest
+
+abbrev pub words : ℕ → ℕ → List ℕ → List ℕ
+words a b rest = a ∷ b ∷ 0 ∷ 0 ∷ 0 ∷ 0 ∷ 0 ∷ 0 ∷ rest
+
+-- ---- the rows
+unfoldable pub markedRows : List MarkedRow
+markedRows =
+    -- P1: "N 2; 1 begins open receive, code 15; 0 begins send to 1, word 250, code 15; five steps of 0, one of 1"
+    record {
+      n = 2;
+      calls = begin 1 (receiveOnly (openFor 15)) ∷ begin 0 (sendTo 1 (250 ∷ []) 15 Absent) ∷ steps 5 0 ++ steps 1 1;
+      result = record {
+        answers = Accepted ∷ Accepted ∷ Moved ∷ Moved ∷ Moved ∷ Moved ∷ Moved ∷ Moved ∷ [];
+        threads = resting (codeOnly done) ∷ resting (receivedFrom 0 1) ∷ [];
+        store = words 0 0 (words 250 0 []);
+        order = some (begins 1 (receiveOnly (openFor 15))) ∷ some (begins 0 (sendTo 1 (250 ∷ []) 15 Absent)) ∷ none ∷ none ∷ none ∷ some (rendezvous 0 1) ∷ none ∷ none ∷ [];
+      };
+    }
+    -- P2: "N 2, send to 2: -2, idle"
+    ∷ record {
+      n = 2;
+      calls = begin 0 (sendTo 2 (250 ∷ []) 15 Absent) ∷ steps 1 0;
+      result = record {
+        answers = Accepted ∷ Idle ∷ [];
+        threads = resting (codeOnly noReceiver) ∷ resting (codeOnly neverBegun) ∷ [];
+        store = words 0 0 (untouched []);
+        order = some (begins 0 (sendTo 2 (250 ∷ []) 15 Absent)) ∷ none ∷ [];
+      };
+    }
+    -- P3: "send code 0 to an idle thread; lock, check: -4"
+    ∷ record {
+      n = 2;
+      calls = begin 0 (sendTo 1 (250 ∷ []) 0 Absent) ∷ steps 2 0;
+      result = record {
+        answers = Accepted ∷ Moved ∷ Moved ∷ [];
+        threads = thread release noFlags nobody [] (codeOnly sendTimeOver) ∷ thread idle noFlags 0 [] (codeOnly neverBegun) ∷ [];
+        store = words 0 0 (untouched []);
+        order = some (begins 0 (sendTo 1 (250 ∷ []) 0 Absent)) ∷ none ∷ some (aborts 0 sendTimeOver) ∷ [];
+      };
+    }
+    -- P4: "open receive code 0, empty queue, look: -3"
+    ∷ record {
+      n = 2;
+      calls = begin 0 (receiveOnly (openFor 0)) ∷ steps 1 0;
+      result = record {
+        answers = Accepted ∷ Moved ∷ [];
+        threads = resting (codeOnly receiveTimeOver) ∷ resting (codeOnly neverBegun) ∷ [];
+        store = words 0 0 (untouched []);
+        order = some (begins 0 (receiveOnly (openFor 0))) ∷ some (aborts 0 receiveTimeOver) ∷ [];
+      };
+    }
+    -- P5: "N 3, 0 closed on 1; 2 sends to 0, code 0: -4, 0 still running"
+    ∷ record {
+      n = 3;
+      calls = begin 0 (receiveOnly (closedFor 1 15)) ∷ begin 2 (sendTo 0 (5 ∷ []) 0 Absent) ∷ steps 2 2;
+      result = record {
+        answers = Accepted ∷ Accepted ∷ Moved ∷ Moved ∷ [];
+        threads = thread look (flags 1 0 1 0 0) 2 [] (codeOnly running) ∷ resting (codeOnly neverBegun) ∷ thread release noFlags nobody [] (codeOnly sendTimeOver) ∷ [];
+        store = words 0 0 (untouched (words 0 0 []));
+        order = some (begins 0 (receiveOnly (closedFor 1 15))) ∷ some (begins 2 (sendTo 0 (5 ∷ []) 0 Absent)) ∷ none ∷ some (aborts 2 sendTimeOver) ∷ [];
+      };
+    }
+    -- P6: "sender asleep, cancel, three steps: -6"
+    ∷ record {
+      n = 2;
+      calls = begin 0 (sendTo 1 (5 ∷ []) 15 Absent) ∷ steps 4 0 ++ cancel 0 ∷ steps 3 0;
+      result = record {
+        answers = Accepted ∷ Moved ∷ Moved ∷ Moved ∷ Asleep ∷ Marked ∷ Moved ∷ Moved ∷ Moved ∷ [];
+        threads = thread release noFlags nobody [] (codeOnly sendCancelled) ∷ thread idle noFlags 0 [] (codeOnly neverBegun) ∷ [];
+        store = words 0 0 (untouched []);
+        order = some (begins 0 (sendTo 1 (5 ∷ []) 15 Absent)) ∷ none ∷ none ∷ none ∷ none ∷ some (cancels 0) ∷ none ∷ none ∷ some (aborts 0 sendCancelled) ∷ [];
+      };
+    }
+    -- P7: "waiting receiver, cancel, step: -5"
+    ∷ record {
+      n = 2;
+      calls = begin 0 (receiveOnly (openFor 15)) ∷ steps 1 0 ++ cancel 0 ∷ steps 1 0;
+      result = record {
+        answers = Accepted ∷ Asleep ∷ Marked ∷ Moved ∷ [];
+        threads = resting (codeOnly receiveCancelled) ∷ resting (codeOnly neverBegun) ∷ [];
+        store = words 0 0 (untouched []);
+        order = some (begins 0 (receiveOnly (openFor 15))) ∷ none ∷ some (cancels 0) ∷ some (aborts 0 receiveCancelled) ∷ [];
+      };
+    }
+    -- P8: "0 owns 1's lock: step of 1 answers held, cancel of 1 returns 4", and so does begin; 1 is idle
+    ∷ record {
+      n = 2;
+      calls = begin 0 (sendTo 1 [] 15 Absent) ∷ steps 1 0 ++ step 1 ∷ cancel 1 ∷ begin 1 (receiveOnly (openFor 15)) ∷ [];
+      result = record {
+        answers = Accepted ∷ Moved ∷ Held ∷ Refused 4 ∷ Refused 4 ∷ [];
+        threads = thread check (flags 1 1 0 1 0) nobody [] (codeOnly running) ∷ thread idle noFlags 0 (0 ∷ []) (codeOnly neverBegun) ∷ [];
+        store = words 0 0 (untouched []);
+        order = some (begins 0 (sendTo 1 [] 15 Absent)) ∷ none ∷ none ∷ none ∷ none ∷ [];
+      };
+    }
+    -- P8 again, with 1 in look
+    ∷ record {
+      n = 2;
+      calls = begin 1 (receiveOnly (openFor 15)) ∷ begin 0 (sendTo 1 [] 15 Absent) ∷ steps 1 0 ++ step 1 ∷ cancel 1 ∷ [];
+      result = record {
+        answers = Accepted ∷ Accepted ∷ Moved ∷ Held ∷ Refused 4 ∷ [];
+        threads = thread check (flags 1 1 0 1 0) nobody [] (codeOnly running) ∷ thread look (flags 1 0 1 0 0) 0 (0 ∷ []) (codeOnly running) ∷ [];
+        store = words 0 0 (words 0 0 []);
+        order = some (begins 1 (receiveOnly (openFor 15))) ∷ some (begins 0 (sendTo 1 [] 15 Absent)) ∷ none ∷ none ∷ none ∷ [];
+      };
+    }
+    -- P9: "0 then 2 queue at open receiver 1; only 2 steps: 2 delivers"
+    ∷ record {
+      n = 3;
+      calls = begin 1 (receiveOnly (openFor 15)) ∷ begin 0 (sendTo 1 (5 ∷ []) 15 Absent) ∷ begin 2 (sendTo 1 (6 ∷ []) 15 Absent) ∷ steps 4 2;
+      result = record {
+        answers = Accepted ∷ Accepted ∷ Accepted ∷ Moved ∷ Moved ∷ Moved ∷ Moved ∷ [];
+        threads = thread lock (flags 1 1 0 0 0) nobody [] (codeOnly running) ∷ thread look noFlags 2 (0 ∷ []) (receivedFrom 2 1) ∷ thread release noFlags nobody [] (codeOnly done) ∷ [];
+        store = words 0 0 (words 6 0 (words 0 0 []));
+        order =
+            some (begins 1 (receiveOnly (openFor 15))) ∷ some (begins 0 (sendTo 1 (5 ∷ []) 15 Absent)) ∷ some (begins 2 (sendTo 1 (6 ∷ []) 15 Absent))
+            ∷ none ∷ none ∷ none ∷ some (rendezvous 2 1) ∷ [];
+      };
+    }
+    -- P10: "0 calls 1; 1 replies with send code 0: succeeds"
+    ∷ record {
+      n = 2;
+      calls =
+          begin 1 (receiveOnly (openFor 15)) ∷ begin 0 (sendTo 1 (5 ∷ []) 15 (closedFor 1 15)) ∷ steps 5 0 ++ steps 1 1
+          ++ begin 1 (sendTo 0 (6 ∷ 7 ∷ []) 0 Absent) ∷ steps 5 1;
+      result = record {
+        answers = Accepted ∷ Accepted ∷ Moved ∷ Moved ∷ Moved ∷ Moved ∷ Moved ∷ Moved ∷ Accepted ∷ Moved ∷ Moved ∷ Moved ∷ Moved ∷ Moved ∷ [];
+        threads = thread look noFlags 1 [] (receivedFrom 1 2) ∷ thread release noFlags nobody [] (codeOnly done) ∷ [];
+        store = words 6 7 (words 0 0 []);
+        order =
+            some (begins 1 (receiveOnly (openFor 15))) ∷ some (begins 0 (sendTo 1 (5 ∷ []) 15 (closedFor 1 15)))
+            ∷ none ∷ none ∷ none ∷ some (rendezvous 0 1) ∷ none ∷ none
+            ∷ some (begins 1 (sendTo 0 (6 ∷ 7 ∷ []) 0 Absent)) ∷ none ∷ none ∷ none ∷ none ∷ some (rendezvous 1 0) ∷ [];
+      };
+    }
+    -- P11: "no words: lock, check, finish, release; count 0"
+    ∷ record {
+      n = 2;
+      calls = begin 1 (receiveOnly (openFor 15)) ∷ begin 0 (sendTo 1 [] 15 Absent) ∷ steps 4 0;
+      result = record {
+        answers = Accepted ∷ Accepted ∷ Moved ∷ Moved ∷ Moved ∷ Moved ∷ [];
+        threads = resting (codeOnly done) ∷ thread look noFlags nobody [] (receivedFrom 0 0) ∷ [];
+        store = words 0 0 (words 0 0 []);
+        order = some (begins 1 (receiveOnly (openFor 15))) ∷ some (begins 0 (sendTo 1 [] 15 Absent)) ∷ none ∷ none ∷ some (rendezvous 0 1) ∷ none ∷ [];
+      };
+    }
+    -- P12: "send code 1, asleep, tick, three steps: -4"
+    ∷ record {
+      n = 2;
+      calls = begin 0 (sendTo 1 (5 ∷ []) 1 Absent) ∷ steps 4 0 ++ tick ∷ steps 3 0;
+      result = record {
+        answers = Accepted ∷ Moved ∷ Moved ∷ Moved ∷ Asleep ∷ Accepted ∷ Moved ∷ Moved ∷ Moved ∷ [];
+        threads = thread release noFlags nobody [] (codeOnly sendTimeOver) ∷ thread idle noFlags 0 [] (codeOnly neverBegun) ∷ [];
+        store = words 0 0 (untouched []);
+        order = some (begins 0 (sendTo 1 (5 ∷ []) 1 Absent)) ∷ none ∷ none ∷ none ∷ none ∷ some ticksOn ∷ none ∷ none ∷ some (aborts 0 sendTimeOver) ∷ [];
+      };
+    }
+    ∷ []

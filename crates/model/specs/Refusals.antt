@@ -1,0 +1,111 @@
+-- Document 01, "What a refused call returns": the rows of its table, and for each call those that concern it, in the order of checking.
+use mathlib.Core.Bool.{Bool, true, false, not, cond, _&&_, _||_}
+use mathlib.Core.List.{List, [], _∷_}
+use Prim.Native.Nat.{ℕ, zero, suc, _*_}
+use lib.ListN.{length}
+use lib.Dec.{eqb, leb, ltb}
+use Rattle.model.specs.declared.Wait.{Wait}
+use Rattle.model.specs.declared.Receive.{Receive}
+use Rattle.model.specs.declared.Receive.the-variants.{Absent, Open, Closed}
+use Rattle.model.specs.declared.Operation.{Operation}
+use Rattle.model.specs.declared.Table.{Table}
+use Rattle.model.specs.Waiting.{wordLimit, isTimeCode, hasReceive, receiveTime, closedOn}
+use Rattle.model.specs.Threads.{idle, at, lockFree}
+use Rattle.model.specs.WellFormed.{sizeInRange, inPhase, wellFormed}
+use Rattle.model.specs.Calls.{Call, begin, step, cancel, tick, State}
+
+-- "When", and the number that is "Returned"
+pub record Row : Type 0 where
+  pub when : Bool
+  pub number : ℕ
+
+-- the number of the first row that holds, or 0
+unfoldable pub firstRefusal : List Row → ℕ
+firstRefusal [] = 0
+firstRefusal (row ∷ rows) = let later = firstRefusal rows in cond (row .when) (row .number) later
+
+-- what is returned where the refusal is g: its number, or, where it is 0, the accepted value
+unfoldable pub unless {ℓ} : {A : Type ℓ} → ℕ → (ℕ → A) → A → A
+unless zero refused accepted = accepted
+unless (suc g) refused accepted = refused (suc g)
+
+-- "N is 0 or above 32"
+unfoldable pub badSize : ℕ → Row
+badSize n = record { when = not (sizeInRange n); number = 1 }
+
+-- "table not sound"
+unfoldable pub notWellFormed : Table → Row
+notWellFormed t = record { when = not (wellFormed t); number = 2 }
+
+-- "thread is N or more"
+unfoldable pub noThread : Table → ℕ → Row
+noThread t x = record { when = leb (t .n) x; number = 3 }
+
+-- "word store not 8×N words, or report run not N long"
+unfoldable pub badLength : ℕ → ℕ → Row
+badLength expected actual = record { when = not (eqb actual expected); number = 11 }
+
+-- "begin or cancel, and its lock is owned"
+unfoldable pub lockOwned : Table → ℕ → Row
+lockOwned t x = record { when = not (lockFree (at t x)); number = 4 }
+
+-- "begin, phase not idle"
+unfoldable pub notIdle : Table → ℕ → Row
+notIdle t x = record { when = not (inPhase (idle ∷ []) (at t x)); number = 5 }
+
+-- "neither part"
+unfoldable pub neitherPart : Operation → Row
+neitherPart o = record { when = not (o .send .present || hasReceive (o .receive)); number = 6 }
+
+-- "target or closed partner is the thread itself"
+unfoldable pub withItself : ℕ → Operation → Row
+withItself x o = record { when = o .send .present && eqb (o .send .target) x || closedOn (o .receive) x; number = 7 }
+
+-- "closed partner is N or more"
+abbrev pub closedBeyond : ℕ → Receive → Bool
+closedBeyond n Absent = false
+closedBeyond n (Open w) = false
+closedBeyond n (Closed w) = leb n (w .partner)
+
+unfoldable pub noPartner : Table → Operation → Row
+noPartner t o = record { when = closedBeyond (t .n) (o .receive); number = 8 }
+
+-- "send part of more than 8 words"
+unfoldable pub tooManyWords : Operation → Row
+tooManyWords o = record { when = o .send .present && ltb wordLimit (o .send .count); number = 9 }
+
+-- "time code above 15 in a part it has"
+unfoldable pub badTime : Operation → Row
+badTime o = record {
+  when = o .send .present && not (isTimeCode (o .send .time)) || hasReceive (o .receive) && not (isTimeCode (receiveTime (o .receive)));
+  number = 10;
+}
+
+-- the rows that concern a table, a thread of it and a word store: all those of step and outcome
+unfoldable pub threadAndStoreRows : State → ℕ → List Row
+threadAndStoreRows s x = badSize (s .table .n) ∷ notWellFormed (s .table) ∷ noThread (s .table) x ∷ badLength (8 * s .table .n) (length (s .store)) ∷ []
+
+-- the rows of each call
+unfoldable pub rowsOf : Call → State → List Row
+rowsOf (begin x o) s =
+    badSize (s .table .n) ∷ notWellFormed (s .table) ∷ noThread (s .table) x ∷ badLength (8 * s .table .n) (length (s .store))
+    ∷ lockOwned (s .table) x ∷ notIdle (s .table) x ∷ neitherPart o ∷ withItself x o ∷ noPartner (s .table) o ∷ tooManyWords o ∷ badTime o ∷ []
+rowsOf (step x) s = threadAndStoreRows s x
+rowsOf (cancel x) s = badSize (s .table .n) ∷ notWellFormed (s .table) ∷ noThread (s .table) x ∷ lockOwned (s .table) x ∷ []
+rowsOf tick s = badSize (s .table .n) ∷ notWellFormed (s .table) ∷ []
+
+-- the number by which a call is refused, or 0
+unfoldable pub refusal : Call → State → ℕ
+refusal c s = firstRefusal (rowsOf c s)
+
+-- making a table of n threads
+unfoldable pub makeRefusal : ℕ → ℕ
+makeRefusal n = firstRefusal (badSize n ∷ [])
+
+-- the outcome of thread x
+unfoldable pub outcomeRefusal : State → ℕ → ℕ
+outcomeRefusal s x = firstRefusal (threadAndStoreRows s x)
+
+-- a report into a slice of so many records
+unfoldable pub reportRefusal : Table → ℕ → ℕ
+reportRefusal t records = firstRefusal (badSize (t .n) ∷ notWellFormed t ∷ badLength (t .n) records ∷ [])

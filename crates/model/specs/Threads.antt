@@ -1,0 +1,240 @@
+-- Document 01, "The table": codes, phases, a new table, reading and changing a thread, queues, ready, and the word store.
+use mathlib.Core.Bool.{Bool, true, false, not, cond}
+use mathlib.Core.Option.{Option, none, some}
+use mathlib.Core.List.{List, [], _∷_, _++_}
+use Prim.Native.Nat.{ℕ, zero, suc, _+_, _-_, _*_}
+use lib.ListN.{getD, set, take, drop, replicate}
+use lib.Seq.{sets}
+use lib.Dec.{eqb}
+use lib.IntN.{ℤ, pos, negsuc, negℤ}
+use Rattle.model.specs.declared.Flags.{Flags}
+use Rattle.model.specs.declared.SendPart.{SendPart}
+use Rattle.model.specs.declared.Receive.{Receive}
+use Rattle.model.specs.declared.Receive.the-variants.{Absent, Open, Closed}
+use Rattle.model.specs.declared.Operation.{Operation}
+use Rattle.model.specs.declared.Queue.{Queue}
+use Rattle.model.specs.declared.Outcome.{Outcome}
+use Rattle.model.specs.declared.Thread.{Thread}
+use Rattle.model.specs.declared.Table.{Table}
+use Rattle.model.specs.Lists.{allOf, without, firstWhere}
+use Rattle.model.specs.Waiting.{accepts}
+
+-- ---- codes: "signed; every failure is below zero"
+abbrev pub done : ℤ
+done = pos 0
+
+abbrev pub running : ℤ
+running = pos 1
+
+abbrev pub neverBegun : ℤ
+neverBegun = pos 2
+
+-- receiver does not exist
+abbrev pub noReceiver : ℤ
+noReceiver = negℤ (pos 2)
+
+abbrev pub receiveTimeOver : ℤ
+receiveTimeOver = negℤ (pos 3)
+
+abbrev pub sendTimeOver : ℤ
+sendTimeOver = negℤ (pos 4)
+
+abbrev pub receiveCancelled : ℤ
+receiveCancelled = negℤ (pos 5)
+
+abbrev pub sendCancelled : ℤ
+sendCancelled = negℤ (pos 6)
+
+-- the codes in document 01's order
+abbrev pub codes : List ℤ
+codes = done ∷ running ∷ neverBegun ∷ noReceiver ∷ receiveTimeOver ∷ sendTimeOver ∷ receiveCancelled ∷ sendCancelled ∷ []
+
+-- two codes are the same
+abbrev pub sameCode : ℤ → ℤ → Bool
+sameCode (pos m) (pos n) = eqb m n
+sameCode (pos m) (negsuc n) = false
+sameCode (negsuc m) (pos n) = false
+sameCode (negsuc m) (negsuc n) = eqb m n
+
+-- "Source 255 means none"; a lock's owner 255 is none too
+abbrev pub nobody : ℕ
+nobody = 255
+
+-- an outcome that is not a completed receive: its code, "source 255 and count 0"
+abbrev pub codeOnly : ℤ → Outcome
+codeOnly code = record { code = code; source = nobody; count = 0 }
+
+-- ---- phases
+pub data Phase : Type 0 where
+  idle lock check copy release sleep look wake unlock unknown : Phase
+
+-- the phases in the order of their numbers, 0 to 8
+abbrev pub phases : List Phase
+phases = idle ∷ lock ∷ check ∷ copy ∷ release ∷ sleep ∷ look ∷ wake ∷ unlock ∷ []
+
+-- the phase that a number stands for
+unfoldable pub phaseOf : ℕ → Phase
+phaseOf number = getD phases number unknown
+
+-- the number that a phase has in a thread
+abbrev pub phaseNumber : Phase → ℕ
+phaseNumber idle = 0
+phaseNumber lock = 1
+phaseNumber check = 2
+phaseNumber copy = 3
+phaseNumber release = 4
+phaseNumber sleep = 5
+phaseNumber look = 6
+phaseNumber wake = 7
+phaseNumber unlock = 8
+phaseNumber unknown = 9
+
+-- ---- a new table
+abbrev pub noFlags : Flags
+noFlags = record { ipc = false; send = false; receiving = false; poll = false; mark = false }
+
+unfoldable pub noOperation : Operation
+noOperation = record { send = record { present = false; target = 0; count = 0; time = 0; words = replicate 8 0 }; receive = Absent }
+
+-- "idle, with no flag and no operation, `left` 0, an empty queue, a free lock, code 2, source 255 and count 0"
+unfoldable pub newThread : Thread
+newThread = record {
+  flags = noFlags;
+  phase = 0;
+  op = noOperation;
+  left = 0;
+  queue = record { items = replicate 32 0; len = 0 };
+  owner = nobody;
+  outcome = codeOnly neverBegun;
+  copied = 0;
+  waking = 0;
+}
+
+unfoldable pub newTable : ℕ → Table
+newTable n = record { n = n; threads = replicate 32 newThread }
+
+-- ---- reading and changing a thread
+-- what Rattle reads past the end of an array of threads: everything zero
+abbrev pub zeroThread : Thread
+zeroThread = record {
+  flags = noFlags;
+  phase = 0;
+  op = record { send = record { present = false; target = 0; count = 0; time = 0; words = [] }; receive = Absent };
+  left = 0;
+  queue = record { items = []; len = 0 };
+  owner = 0;
+  outcome = record { code = pos 0; source = 0; count = 0 };
+  copied = 0;
+  waking = 0;
+}
+
+-- thread x
+unfoldable pub at : Table → ℕ → Thread
+at t x = getD (t .threads) x zeroThread
+
+-- the table with f done to thread x
+unfoldable pub edit : ℕ → (Thread → Thread) → Table → Table
+edit x f t = record { n = t .n; threads = set (t .threads) x (f (at t x)) }
+
+-- the table with f done to each thread below k
+unfoldable pub editBelow : ℕ → (Thread → Thread) → Table → Table
+editBelow zero f t = t
+editBelow (suc k) f t = edit k f (editBelow k f t)
+
+-- a thread with one field changed
+abbrev pub withFlags : Flags → Thread → Thread
+withFlags v h = record { flags = v; phase = h .phase; op = h .op; left = h .left; queue = h .queue; owner = h .owner; outcome = h .outcome; copied = h .copied; waking = h .waking }
+
+abbrev pub entering : Phase → Thread → Thread
+entering p h = record { flags = h .flags; phase = phaseNumber p; op = h .op; left = h .left; queue = h .queue; owner = h .owner; outcome = h .outcome; copied = h .copied; waking = h .waking }
+
+abbrev pub withOp : Operation → Thread → Thread
+withOp v h = record { flags = h .flags; phase = h .phase; op = v; left = h .left; queue = h .queue; owner = h .owner; outcome = h .outcome; copied = h .copied; waking = h .waking }
+
+abbrev pub withLeft : ℕ → Thread → Thread
+withLeft v h = record { flags = h .flags; phase = h .phase; op = h .op; left = v; queue = h .queue; owner = h .owner; outcome = h .outcome; copied = h .copied; waking = h .waking }
+
+abbrev pub withQueue : Queue → Thread → Thread
+withQueue v h = record { flags = h .flags; phase = h .phase; op = h .op; left = h .left; queue = v; owner = h .owner; outcome = h .outcome; copied = h .copied; waking = h .waking }
+
+abbrev pub withOwner : ℕ → Thread → Thread
+withOwner v h = record { flags = h .flags; phase = h .phase; op = h .op; left = h .left; queue = h .queue; owner = v; outcome = h .outcome; copied = h .copied; waking = h .waking }
+
+abbrev pub withOutcome : Outcome → Thread → Thread
+withOutcome v h = record { flags = h .flags; phase = h .phase; op = h .op; left = h .left; queue = h .queue; owner = h .owner; outcome = v; copied = h .copied; waking = h .waking }
+
+abbrev pub withCopied : ℕ → Thread → Thread
+withCopied v h = record { flags = h .flags; phase = h .phase; op = h .op; left = h .left; queue = h .queue; owner = h .owner; outcome = h .outcome; copied = v; waking = h .waking }
+
+abbrev pub withWaking : ℕ → Thread → Thread
+withWaking v h = record { flags = h .flags; phase = h .phase; op = h .op; left = h .left; queue = h .queue; owner = h .owner; outcome = h .outcome; copied = h .copied; waking = v }
+
+-- `poll` set or clear
+abbrev pub polled : Bool → Thread → Thread
+polled v h = withFlags (record { ipc = h .flags .ipc; send = h .flags .send; receiving = h .flags .receiving; poll = v; mark = h .flags .mark }) h
+
+-- `mark` set
+abbrev pub marked : Thread → Thread
+marked h = withFlags (record { ipc = h .flags .ipc; send = h .flags .send; receiving = h .flags .receiving; poll = h .flags .poll; mark = true }) h
+
+-- `send` and `poll` clear
+abbrev pub sent : Thread → Thread
+sent h = withFlags (record { ipc = h .flags .ipc; send = false; receiving = h .flags .receiving; poll = false; mark = h .flags .mark }) h
+
+-- an ending: all flags clear, and the outcome
+abbrev pub ended : Outcome → Thread → Thread
+ended u h = withFlags noFlags (withOutcome u h)
+
+-- the receive part dropped
+abbrev pub withoutReceive : Thread → Thread
+withoutReceive h = withOp (record { send = h .op .send; receive = Absent }) h
+
+-- ---- queues, locks and readiness
+-- the waiting senders, the earliest first
+unfoldable pub senders : Thread → List ℕ
+senders h = take (h .queue .len) (h .queue .items)
+
+-- s at the end of the queue
+unfoldable pub joined : ℕ → Thread → Thread
+joined s h = withQueue (record { items = set (h .queue .items) (h .queue .len) s; len = h .queue .len + 1 }) h
+
+-- s gone from the queue, those behind it moved up
+unfoldable pub departed : ℕ → Thread → Thread
+departed s h = withQueue (record { items = without s (senders h) ++ drop (h .queue .len - 1) (h .queue .items); len = h .queue .len - 1 }) h
+
+-- nobody owns the thread's lock
+unfoldable pub lockFree : Thread → Bool
+lockFree h = eqb (h .owner) nobody
+
+-- "the first acceptable sender in the queue"
+unfoldable pub findSender : Thread → Option ℕ
+findSender h = firstWhere (accepts (h .op .receive)) (senders h)
+
+-- document 01's "ready" for s: "`ipc` and `receiving` set, `send` and `mark` clear, open or closed on" s
+unfoldable pub ready : Thread → ℕ → Bool
+ready h s = allOf (h .flags .ipc ∷ h .flags .receiving ∷ not (h .flags .send) ∷ not (h .flags .mark) ∷ accepts (h .op .receive) s ∷ [])
+
+-- whose lock a thread holds: "check, copy and release hold the target's lock; wake and unlock that of the sender being woken; a thread holds no other"
+abbrev pub lockHeldIn : Phase → Thread → ℕ
+lockHeldIn idle h = nobody
+lockHeldIn lock h = nobody
+lockHeldIn check h = h .op .send .target
+lockHeldIn copy h = h .op .send .target
+lockHeldIn release h = h .op .send .target
+lockHeldIn sleep h = nobody
+lockHeldIn look h = nobody
+lockHeldIn wake h = h .waking
+lockHeldIn unlock h = h .waking
+lockHeldIn unknown h = nobody
+
+unfoldable pub lockHeld : Thread → ℕ
+lockHeld h = lockHeldIn (phaseOf (h .phase)) h
+
+-- ---- the word store
+-- "the eight words of thread t start at place 8×t"
+unfoldable pub wordsAt : List ℕ → ℕ → List ℕ
+wordsAt store x = take 8 (drop (8 * x) store)
+
+-- the store with thread x's eight words zero
+unfoldable pub zeroed : ℕ → List ℕ → List ℕ
+zeroed x store = sets store (8 * x) (replicate 8 0)

@@ -1,0 +1,72 @@
+-- What the step machine and the atomic machine share: times, the fall of `left`, which sender a receive part accepts, and a message's words.
+use mathlib.Core.Bool.{Bool, true, false, cond, _||_}
+use mathlib.Core.List.{List, [], _∷_}
+use Prim.Native.Nat.{ℕ, _-_}
+use lib.ListN.{getD}
+use lib.Dec.{eqb, leb}
+use Rattle.model.specs.declared.SendPart.{SendPart}
+use Rattle.model.specs.declared.Wait.{Wait}
+use Rattle.model.specs.declared.Receive.{Receive}
+use Rattle.model.specs.declared.Receive.the-variants.{Absent, Open, Closed}
+use Rattle.model.specs.declared.Operation.{Operation}
+use Rattle.model.specs.Lists.{upTo}
+
+-- `left` of a thread whose time never runs out
+abbrev pub never : ℕ
+never = 65535
+
+-- "a table of sixteen tick counts, codes 0 to 15"
+abbrev pub tickCounts : List ℕ
+tickCounts = 0 ∷ 1 ∷ 2 ∷ 5 ∷ 10 ∷ 20 ∷ 50 ∷ 100 ∷ 200 ∷ 500 ∷ 1000 ∷ 2000 ∷ 5000 ∷ 10000 ∷ 20000 ∷ never ∷ []
+
+-- a time code that stands for a tick count
+unfoldable pub isTimeCode : ℕ → Bool
+isTimeCode code = leb code 15
+
+-- a number of ticks that `left` can hold while an operation runs
+unfoldable pub isLeft : ℕ → Bool
+isLeft left = leb left 20000 || eqb left never
+
+-- the ticks that a time code stands for
+unfoldable pub ticks : ℕ → ℕ
+ticks code = getD tickCounts code 0
+
+-- a tick "lowers `left` by one, unless 0 or never"
+unfoldable pub fall : ℕ → ℕ
+fall left = cond (eqb left never) left (left - 1)
+
+-- an operation has a receive part
+abbrev pub hasReceive : Receive → Bool
+hasReceive Absent = false
+hasReceive (Open w) = true
+hasReceive (Closed w) = true
+
+-- the time code of a receive part
+abbrev pub receiveTime : Receive → ℕ
+receiveTime Absent = 0
+receiveTime (Open w) = w .time
+receiveTime (Closed w) = w .time
+
+-- document 01's "acceptable": the receive part is "open or closed on s"
+abbrev pub accepts : Receive → ℕ → Bool
+accepts Absent s = false
+accepts (Open w) s = true
+accepts (Closed w) s = eqb (w .partner) s
+
+-- the receive part is closed on s
+abbrev pub closedOn : Receive → ℕ → Bool
+closedOn Absent s = false
+closedOn (Open w) s = false
+closedOn (Closed w) s = eqb (w .partner) s
+
+-- "`left` comes from the send code, else the receive code"
+abbrev pub firstTime : Operation → ℕ
+firstTime o = cond (o .send .present) (o .send .time) (receiveTime (o .receive))
+
+-- "0 to 8 words"
+abbrev pub wordLimit : ℕ
+wordLimit = 8
+
+-- the words of a message: the first `count` of the eight
+unfoldable pub message : SendPart → List ℕ
+message part = upTo (part .count) (λ i. getD (part .words) i 0)

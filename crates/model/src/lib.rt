@@ -1,0 +1,109 @@
+// The types of the message engine, in the order of document 01's "The table". The definitions over them are in specs/.
+
+// The five flags of a thread; mark: a cancel was asked for.
+pub struct Flags {
+    pub ipc: bool,
+    pub send: bool,
+    pub receiving: bool,
+    pub poll: bool,
+    pub mark: bool,
+}
+
+// A send part: to whom, how many of the eight words, and a time code. Where it is not present the rest is unused.
+pub struct SendPart {
+    pub present: bool,
+    pub target: u8,
+    pub count: u8,
+    pub time: u8,
+    pub words: [u32; 8],
+}
+
+// How long a receive waits, by its time code, and for whom; an open receive does not use the partner.
+pub struct Wait {
+    pub time: u8,
+    pub partner: u8,
+}
+
+// A receive part: none, open, or closed on one partner.
+pub enum Receive {
+    Absent,
+    Open(Wait),
+    Closed(Wait),
+}
+
+// An operation: a send part or none, and a receive part or none.
+pub struct Operation {
+    pub send: SendPart,
+    pub receive: Receive,
+}
+
+// The senders that wait at a thread: the first len of items, the earliest first.
+pub struct Queue {
+    pub items: [u8; 32],
+    pub len: u8,
+}
+
+// How a thread's latest operation stands; also one record of a report.
+pub struct Outcome {
+    pub code: i32,
+    pub source: u8,
+    pub count: u8,
+}
+
+// A thread. left is 65535 for never, owner 255 for none. Two fields are not in document 01's list:
+// copied, how many words the running copy has delivered, and waking, the sender whose lock wake and unlock hold.
+pub struct Thread {
+    pub flags: Flags,
+    pub phase: u8,
+    pub op: Operation,
+    pub left: u16,
+    pub queue: Queue,
+    pub owner: u8,
+    pub outcome: Outcome,
+    pub copied: u8,
+    pub waking: u8,
+}
+
+// The table: its first n threads are in use.
+pub struct Table {
+    pub n: u8,
+    pub threads: [Thread; 32],
+}
+
+// What making a table, begin, step, cancel, tick and report answer.
+pub enum Answer {
+    Refused(u8),
+    Accepted,
+    Marked,
+    NothingToCancel,
+    Moved,
+    Idle,
+    Held,
+    Wants,
+    Asleep,
+}
+
+// An answer and the table after the call.
+pub struct Returned {
+    pub answer: Answer,
+    pub table: Table,
+}
+
+// What the outcome call answers; the words are handed back as a slice of the store.
+pub enum OutcomeAnswer {
+    Refused(u8),
+    Shown(Outcome),
+}
+
+// One record of a schedule: kind 0 table, 1 begin, 2 step, 3 cancel, 4 tick. Only begin uses op; thread is N for a table and 0 for a tick.
+pub struct Record {
+    pub kind: u8,
+    pub thread: u8,
+    pub op: Operation,
+}
+
+// What reading one record answers; refused, the item is all zero.
+pub struct Decoded {
+    pub answer: Answer,
+    pub item: Record,
+}
