@@ -107,157 +107,158 @@ untouched rest = 7 ∷ 7 ∷ 7 ∷ 7 ∷ 7 ∷ 7 ∷ 7 ∷ 7 ∷ rest
 abbrev pub words : ℕ → ℕ → List ℕ → List ℕ
 words a b rest = a ∷ b ∷ 0 ∷ 0 ∷ 0 ∷ 0 ∷ 0 ∷ 0 ∷ rest
 
--- ---- the rows
-unfoldable pub markedRows : List MarkedRow
-markedRows =
-    -- P1: "N 2; 1 begins open receive, code 15; 0 begins send to 1, word 250, code 15; five steps of 0, one of 1"
-    record {
-      n = 2;
-      calls = begin 1 (receiveOnly (openFor 15)) ∷ begin 0 (sendTo 1 (250 ∷ []) 15 Absent) ∷ steps 5 0 ++ steps 1 1;
-      result = record {
-        answers = Accepted ∷ Accepted ∷ Moved ∷ Moved ∷ Moved ∷ Moved ∷ Moved ∷ Moved ∷ [];
-        threads = resting (codeOnly done) ∷ resting (receivedFrom 0 1) ∷ [];
-        store = words 0 0 (words 250 0 []);
-        order = some (begins 1 (receiveOnly (openFor 15))) ∷ some (begins 0 (sendTo 1 (250 ∷ []) 15 Absent)) ∷ none ∷ none ∷ none ∷ some (rendezvous 0 1) ∷ none ∷ none ∷ [];
-      };
-    }
-    -- P2: "N 2, send to 2: -2, idle"
-    ∷ record {
-      n = 2;
-      calls = begin 0 (sendTo 2 (250 ∷ []) 15 Absent) ∷ steps 1 0;
-      result = record {
-        answers = Accepted ∷ Idle ∷ [];
-        threads = resting (codeOnly noReceiver) ∷ resting (codeOnly neverBegun) ∷ [];
-        store = words 0 0 (untouched []);
-        order = some (begins 0 (sendTo 2 (250 ∷ []) 15 Absent)) ∷ none ∷ [];
-      };
-    }
-    -- P3: "send code 0 to an idle thread; lock, check: -4"
-    ∷ record {
-      n = 2;
-      calls = begin 0 (sendTo 1 (250 ∷ []) 0 Absent) ∷ steps 2 0;
-      result = record {
-        answers = Accepted ∷ Moved ∷ Moved ∷ [];
-        threads = thread release noFlags nobody [] (codeOnly sendTimeOver) ∷ thread idle noFlags 0 [] (codeOnly neverBegun) ∷ [];
-        store = words 0 0 (untouched []);
-        order = some (begins 0 (sendTo 1 (250 ∷ []) 0 Absent)) ∷ none ∷ some (aborts 0 sendTimeOver) ∷ [];
-      };
-    }
-    -- P4: "open receive code 0, empty queue, look: -3"
-    ∷ record {
-      n = 2;
-      calls = begin 0 (receiveOnly (openFor 0)) ∷ steps 1 0;
-      result = record {
-        answers = Accepted ∷ Moved ∷ [];
-        threads = resting (codeOnly receiveTimeOver) ∷ resting (codeOnly neverBegun) ∷ [];
-        store = words 0 0 (untouched []);
-        order = some (begins 0 (receiveOnly (openFor 0))) ∷ some (aborts 0 receiveTimeOver) ∷ [];
-      };
-    }
-    -- P5: "N 3, 0 closed on 1; 2 sends to 0, code 0: -4, 0 still running"
-    ∷ record {
-      n = 3;
-      calls = begin 0 (receiveOnly (closedFor 1 15)) ∷ begin 2 (sendTo 0 (5 ∷ []) 0 Absent) ∷ steps 2 2;
-      result = record {
-        answers = Accepted ∷ Accepted ∷ Moved ∷ Moved ∷ [];
-        threads = thread look (flags 1 0 1 0 0) 2 [] (codeOnly running) ∷ resting (codeOnly neverBegun) ∷ thread release noFlags nobody [] (codeOnly sendTimeOver) ∷ [];
-        store = words 0 0 (untouched (words 0 0 []));
-        order = some (begins 0 (receiveOnly (closedFor 1 15))) ∷ some (begins 2 (sendTo 0 (5 ∷ []) 0 Absent)) ∷ none ∷ some (aborts 2 sendTimeOver) ∷ [];
-      };
-    }
-    -- P6: "sender asleep, cancel, three steps: -6"
-    ∷ record {
-      n = 2;
-      calls = begin 0 (sendTo 1 (5 ∷ []) 15 Absent) ∷ steps 4 0 ++ cancel 0 ∷ steps 3 0;
-      result = record {
-        answers = Accepted ∷ Moved ∷ Moved ∷ Moved ∷ Asleep ∷ Marked ∷ Moved ∷ Moved ∷ Moved ∷ [];
-        threads = thread release noFlags nobody [] (codeOnly sendCancelled) ∷ thread idle noFlags 0 [] (codeOnly neverBegun) ∷ [];
-        store = words 0 0 (untouched []);
-        order = some (begins 0 (sendTo 1 (5 ∷ []) 15 Absent)) ∷ none ∷ none ∷ none ∷ none ∷ some (cancels 0) ∷ none ∷ none ∷ some (aborts 0 sendCancelled) ∷ [];
-      };
-    }
-    -- P7: "waiting receiver, cancel, step: -5"
-    ∷ record {
-      n = 2;
-      calls = begin 0 (receiveOnly (openFor 15)) ∷ steps 1 0 ++ cancel 0 ∷ steps 1 0;
-      result = record {
-        answers = Accepted ∷ Asleep ∷ Marked ∷ Moved ∷ [];
-        threads = resting (codeOnly receiveCancelled) ∷ resting (codeOnly neverBegun) ∷ [];
-        store = words 0 0 (untouched []);
-        order = some (begins 0 (receiveOnly (openFor 15))) ∷ none ∷ some (cancels 0) ∷ some (aborts 0 receiveCancelled) ∷ [];
-      };
-    }
-    -- P8: "0 owns 1's lock: step of 1 answers held, cancel of 1 returns 4", and so does begin; 1 is idle
-    ∷ record {
-      n = 2;
-      calls = begin 0 (sendTo 1 [] 15 Absent) ∷ steps 1 0 ++ step 1 ∷ cancel 1 ∷ begin 1 (receiveOnly (openFor 15)) ∷ [];
-      result = record {
-        answers = Accepted ∷ Moved ∷ Held ∷ Refused 4 ∷ Refused 4 ∷ [];
-        threads = thread check (flags 1 1 0 1 0) nobody [] (codeOnly running) ∷ thread idle noFlags 0 (0 ∷ []) (codeOnly neverBegun) ∷ [];
-        store = words 0 0 (untouched []);
-        order = some (begins 0 (sendTo 1 [] 15 Absent)) ∷ none ∷ none ∷ none ∷ none ∷ [];
-      };
-    }
-    -- P8 again, with 1 in look
-    ∷ record {
-      n = 2;
-      calls = begin 1 (receiveOnly (openFor 15)) ∷ begin 0 (sendTo 1 [] 15 Absent) ∷ steps 1 0 ++ step 1 ∷ cancel 1 ∷ [];
-      result = record {
-        answers = Accepted ∷ Accepted ∷ Moved ∷ Held ∷ Refused 4 ∷ [];
-        threads = thread check (flags 1 1 0 1 0) nobody [] (codeOnly running) ∷ thread look (flags 1 0 1 0 0) 0 (0 ∷ []) (codeOnly running) ∷ [];
-        store = words 0 0 (words 0 0 []);
-        order = some (begins 1 (receiveOnly (openFor 15))) ∷ some (begins 0 (sendTo 1 [] 15 Absent)) ∷ none ∷ none ∷ none ∷ [];
-      };
-    }
-    -- P9: "0 then 2 queue at open receiver 1; only 2 steps: 2 delivers"
-    ∷ record {
-      n = 3;
-      calls = begin 1 (receiveOnly (openFor 15)) ∷ begin 0 (sendTo 1 (5 ∷ []) 15 Absent) ∷ begin 2 (sendTo 1 (6 ∷ []) 15 Absent) ∷ steps 4 2;
-      result = record {
-        answers = Accepted ∷ Accepted ∷ Accepted ∷ Moved ∷ Moved ∷ Moved ∷ Moved ∷ [];
-        threads = thread lock (flags 1 1 0 0 0) nobody [] (codeOnly running) ∷ thread look noFlags 2 (0 ∷ []) (receivedFrom 2 1) ∷ thread release noFlags nobody [] (codeOnly done) ∷ [];
-        store = words 0 0 (words 6 0 (words 0 0 []));
-        order =
-            some (begins 1 (receiveOnly (openFor 15))) ∷ some (begins 0 (sendTo 1 (5 ∷ []) 15 Absent)) ∷ some (begins 2 (sendTo 1 (6 ∷ []) 15 Absent))
-            ∷ none ∷ none ∷ none ∷ some (rendezvous 2 1) ∷ [];
-      };
-    }
-    -- P10: "0 calls 1; 1 replies with send code 0: succeeds"
-    ∷ record {
-      n = 2;
-      calls =
-          begin 1 (receiveOnly (openFor 15)) ∷ begin 0 (sendTo 1 (5 ∷ []) 15 (closedFor 1 15)) ∷ steps 5 0 ++ steps 1 1
-          ++ begin 1 (sendTo 0 (6 ∷ 7 ∷ []) 0 Absent) ∷ steps 5 1;
-      result = record {
-        answers = Accepted ∷ Accepted ∷ Moved ∷ Moved ∷ Moved ∷ Moved ∷ Moved ∷ Moved ∷ Accepted ∷ Moved ∷ Moved ∷ Moved ∷ Moved ∷ Moved ∷ [];
-        threads = thread look noFlags 1 [] (receivedFrom 1 2) ∷ thread release noFlags nobody [] (codeOnly done) ∷ [];
-        store = words 6 7 (words 0 0 []);
-        order =
-            some (begins 1 (receiveOnly (openFor 15))) ∷ some (begins 0 (sendTo 1 (5 ∷ []) 15 (closedFor 1 15)))
-            ∷ none ∷ none ∷ none ∷ some (rendezvous 0 1) ∷ none ∷ none
-            ∷ some (begins 1 (sendTo 0 (6 ∷ 7 ∷ []) 0 Absent)) ∷ none ∷ none ∷ none ∷ none ∷ some (rendezvous 1 0) ∷ [];
-      };
-    }
-    -- P11: "no words: lock, check, finish, release; count 0"
-    ∷ record {
-      n = 2;
-      calls = begin 1 (receiveOnly (openFor 15)) ∷ begin 0 (sendTo 1 [] 15 Absent) ∷ steps 4 0;
-      result = record {
-        answers = Accepted ∷ Accepted ∷ Moved ∷ Moved ∷ Moved ∷ Moved ∷ [];
-        threads = resting (codeOnly done) ∷ thread look noFlags nobody [] (receivedFrom 0 0) ∷ [];
-        store = words 0 0 (words 0 0 []);
-        order = some (begins 1 (receiveOnly (openFor 15))) ∷ some (begins 0 (sendTo 1 [] 15 Absent)) ∷ none ∷ none ∷ some (rendezvous 0 1) ∷ none ∷ [];
-      };
-    }
-    -- P12: "send code 1, asleep, tick, three steps: -4"
-    ∷ record {
-      n = 2;
-      calls = begin 0 (sendTo 1 (5 ∷ []) 1 Absent) ∷ steps 4 0 ++ tick ∷ steps 3 0;
-      result = record {
-        answers = Accepted ∷ Moved ∷ Moved ∷ Moved ∷ Asleep ∷ Accepted ∷ Moved ∷ Moved ∷ Moved ∷ [];
-        threads = thread release noFlags nobody [] (codeOnly sendTimeOver) ∷ thread idle noFlags 0 [] (codeOnly neverBegun) ∷ [];
-        store = words 0 0 (untouched []);
-        order = some (begins 0 (sendTo 1 (5 ∷ []) 1 Absent)) ∷ none ∷ none ∷ none ∷ none ∷ some ticksOn ∷ none ∷ none ∷ some (aborts 0 sendTimeOver) ∷ [];
-      };
-    }
-    ∷ []
+-- ---- the table
+pub data Name : Type 0 where
+  P1 P2 P3 P4 P5 P6 P7 P8-idle P8-look P9 P10 P11 P12 : Name
+
+unfoldable pub row : Name → MarkedRow
+-- P1: "N 2; 1 begins open receive, code 15; 0 begins send to 1, word 250, code 15; five steps of 0, one of 1"
+row P1 = record {
+  n = 2;
+  calls = begin 1 (receiveOnly (openFor 15)) ∷ begin 0 (sendTo 1 (250 ∷ []) 15 Absent) ∷ steps 5 0 ++ steps 1 1;
+  result = record {
+    answers = Accepted ∷ Accepted ∷ Moved ∷ Moved ∷ Moved ∷ Moved ∷ Moved ∷ Moved ∷ [];
+    threads = resting (codeOnly done) ∷ resting (receivedFrom 0 1) ∷ [];
+    store = words 0 0 (words 250 0 []);
+    order = some (begins 1 (receiveOnly (openFor 15))) ∷ some (begins 0 (sendTo 1 (250 ∷ []) 15 Absent)) ∷ none ∷ none ∷ none ∷ some (rendezvous 0 1) ∷ none ∷ none ∷ [];
+  };
+}
+-- P2: "N 2, send to 2: -2, idle"
+row P2 = record {
+  n = 2;
+  calls = begin 0 (sendTo 2 (250 ∷ []) 15 Absent) ∷ steps 1 0;
+  result = record {
+    answers = Accepted ∷ Idle ∷ [];
+    threads = resting (codeOnly noReceiver) ∷ resting (codeOnly neverBegun) ∷ [];
+    store = words 0 0 (untouched []);
+    order = some (begins 0 (sendTo 2 (250 ∷ []) 15 Absent)) ∷ none ∷ [];
+  };
+}
+-- P3: "send code 0 to an idle thread; lock, check: -4"
+row P3 = record {
+  n = 2;
+  calls = begin 0 (sendTo 1 (250 ∷ []) 0 Absent) ∷ steps 2 0;
+  result = record {
+    answers = Accepted ∷ Moved ∷ Moved ∷ [];
+    threads = thread release noFlags nobody [] (codeOnly sendTimeOver) ∷ thread idle noFlags 0 [] (codeOnly neverBegun) ∷ [];
+    store = words 0 0 (untouched []);
+    order = some (begins 0 (sendTo 1 (250 ∷ []) 0 Absent)) ∷ none ∷ some (aborts 0 sendTimeOver) ∷ [];
+  };
+}
+-- P4: "open receive code 0, empty queue, look: -3"
+row P4 = record {
+  n = 2;
+  calls = begin 0 (receiveOnly (openFor 0)) ∷ steps 1 0;
+  result = record {
+    answers = Accepted ∷ Moved ∷ [];
+    threads = resting (codeOnly receiveTimeOver) ∷ resting (codeOnly neverBegun) ∷ [];
+    store = words 0 0 (untouched []);
+    order = some (begins 0 (receiveOnly (openFor 0))) ∷ some (aborts 0 receiveTimeOver) ∷ [];
+  };
+}
+-- P5: "N 3, 0 closed on 1; 2 sends to 0, code 0: -4, 0 still running"
+row P5 = record {
+  n = 3;
+  calls = begin 0 (receiveOnly (closedFor 1 15)) ∷ begin 2 (sendTo 0 (5 ∷ []) 0 Absent) ∷ steps 2 2;
+  result = record {
+    answers = Accepted ∷ Accepted ∷ Moved ∷ Moved ∷ [];
+    threads = thread look (flags 1 0 1 0 0) 2 [] (codeOnly running) ∷ resting (codeOnly neverBegun) ∷ thread release noFlags nobody [] (codeOnly sendTimeOver) ∷ [];
+    store = words 0 0 (untouched (words 0 0 []));
+    order = some (begins 0 (receiveOnly (closedFor 1 15))) ∷ some (begins 2 (sendTo 0 (5 ∷ []) 0 Absent)) ∷ none ∷ some (aborts 2 sendTimeOver) ∷ [];
+  };
+}
+-- P6: "sender asleep, cancel, three steps: -6"
+row P6 = record {
+  n = 2;
+  calls = begin 0 (sendTo 1 (5 ∷ []) 15 Absent) ∷ steps 4 0 ++ cancel 0 ∷ steps 3 0;
+  result = record {
+    answers = Accepted ∷ Moved ∷ Moved ∷ Moved ∷ Asleep ∷ Marked ∷ Moved ∷ Moved ∷ Moved ∷ [];
+    threads = thread release noFlags nobody [] (codeOnly sendCancelled) ∷ thread idle noFlags 0 [] (codeOnly neverBegun) ∷ [];
+    store = words 0 0 (untouched []);
+    order = some (begins 0 (sendTo 1 (5 ∷ []) 15 Absent)) ∷ none ∷ none ∷ none ∷ none ∷ some (cancels 0) ∷ none ∷ none ∷ some (aborts 0 sendCancelled) ∷ [];
+  };
+}
+-- P7: "waiting receiver, cancel, step: -5"
+row P7 = record {
+  n = 2;
+  calls = begin 0 (receiveOnly (openFor 15)) ∷ steps 1 0 ++ cancel 0 ∷ steps 1 0;
+  result = record {
+    answers = Accepted ∷ Asleep ∷ Marked ∷ Moved ∷ [];
+    threads = resting (codeOnly receiveCancelled) ∷ resting (codeOnly neverBegun) ∷ [];
+    store = words 0 0 (untouched []);
+    order = some (begins 0 (receiveOnly (openFor 15))) ∷ none ∷ some (cancels 0) ∷ some (aborts 0 receiveCancelled) ∷ [];
+  };
+}
+-- P8: "0 owns 1's lock: step of 1 answers held, cancel of 1 returns 4", and so does begin; 1 is idle
+row P8-idle = record {
+  n = 2;
+  calls = begin 0 (sendTo 1 [] 15 Absent) ∷ steps 1 0 ++ step 1 ∷ cancel 1 ∷ begin 1 (receiveOnly (openFor 15)) ∷ [];
+  result = record {
+    answers = Accepted ∷ Moved ∷ Held ∷ Refused 4 ∷ Refused 4 ∷ [];
+    threads = thread check (flags 1 1 0 1 0) nobody [] (codeOnly running) ∷ thread idle noFlags 0 (0 ∷ []) (codeOnly neverBegun) ∷ [];
+    store = words 0 0 (untouched []);
+    order = some (begins 0 (sendTo 1 [] 15 Absent)) ∷ none ∷ none ∷ none ∷ none ∷ [];
+  };
+}
+-- P8 again, with 1 in look
+row P8-look = record {
+  n = 2;
+  calls = begin 1 (receiveOnly (openFor 15)) ∷ begin 0 (sendTo 1 [] 15 Absent) ∷ steps 1 0 ++ step 1 ∷ cancel 1 ∷ [];
+  result = record {
+    answers = Accepted ∷ Accepted ∷ Moved ∷ Held ∷ Refused 4 ∷ [];
+    threads = thread check (flags 1 1 0 1 0) nobody [] (codeOnly running) ∷ thread look (flags 1 0 1 0 0) 0 (0 ∷ []) (codeOnly running) ∷ [];
+    store = words 0 0 (words 0 0 []);
+    order = some (begins 1 (receiveOnly (openFor 15))) ∷ some (begins 0 (sendTo 1 [] 15 Absent)) ∷ none ∷ none ∷ none ∷ [];
+  };
+}
+-- P9: "0 then 2 queue at open receiver 1; only 2 steps: 2 delivers"
+row P9 = record {
+  n = 3;
+  calls = begin 1 (receiveOnly (openFor 15)) ∷ begin 0 (sendTo 1 (5 ∷ []) 15 Absent) ∷ begin 2 (sendTo 1 (6 ∷ []) 15 Absent) ∷ steps 4 2;
+  result = record {
+    answers = Accepted ∷ Accepted ∷ Accepted ∷ Moved ∷ Moved ∷ Moved ∷ Moved ∷ [];
+    threads = thread lock (flags 1 1 0 0 0) nobody [] (codeOnly running) ∷ thread look noFlags 2 (0 ∷ []) (receivedFrom 2 1) ∷ thread release noFlags nobody [] (codeOnly done) ∷ [];
+    store = words 0 0 (words 6 0 (words 0 0 []));
+    order =
+        some (begins 1 (receiveOnly (openFor 15))) ∷ some (begins 0 (sendTo 1 (5 ∷ []) 15 Absent)) ∷ some (begins 2 (sendTo 1 (6 ∷ []) 15 Absent))
+        ∷ none ∷ none ∷ none ∷ some (rendezvous 2 1) ∷ [];
+  };
+}
+-- P10: "0 calls 1; 1 replies with send code 0: succeeds"
+row P10 = record {
+  n = 2;
+  calls =
+      begin 1 (receiveOnly (openFor 15)) ∷ begin 0 (sendTo 1 (5 ∷ []) 15 (closedFor 1 15)) ∷ steps 5 0 ++ steps 1 1
+      ++ begin 1 (sendTo 0 (6 ∷ 7 ∷ []) 0 Absent) ∷ steps 5 1;
+  result = record {
+    answers = Accepted ∷ Accepted ∷ Moved ∷ Moved ∷ Moved ∷ Moved ∷ Moved ∷ Moved ∷ Accepted ∷ Moved ∷ Moved ∷ Moved ∷ Moved ∷ Moved ∷ [];
+    threads = thread look noFlags 1 [] (receivedFrom 1 2) ∷ thread release noFlags nobody [] (codeOnly done) ∷ [];
+    store = words 6 7 (words 0 0 []);
+    order =
+        some (begins 1 (receiveOnly (openFor 15))) ∷ some (begins 0 (sendTo 1 (5 ∷ []) 15 (closedFor 1 15)))
+        ∷ none ∷ none ∷ none ∷ some (rendezvous 0 1) ∷ none ∷ none
+        ∷ some (begins 1 (sendTo 0 (6 ∷ 7 ∷ []) 0 Absent)) ∷ none ∷ none ∷ none ∷ none ∷ some (rendezvous 1 0) ∷ [];
+  };
+}
+-- P11: "no words: lock, check, finish, release; count 0"
+row P11 = record {
+  n = 2;
+  calls = begin 1 (receiveOnly (openFor 15)) ∷ begin 0 (sendTo 1 [] 15 Absent) ∷ steps 4 0;
+  result = record {
+    answers = Accepted ∷ Accepted ∷ Moved ∷ Moved ∷ Moved ∷ Moved ∷ [];
+    threads = resting (codeOnly done) ∷ thread look noFlags nobody [] (receivedFrom 0 0) ∷ [];
+    store = words 0 0 (words 0 0 []);
+    order = some (begins 1 (receiveOnly (openFor 15))) ∷ some (begins 0 (sendTo 1 [] 15 Absent)) ∷ none ∷ none ∷ some (rendezvous 0 1) ∷ none ∷ [];
+  };
+}
+-- P12: "send code 1, asleep, tick, three steps: -4"
+row P12 = record {
+  n = 2;
+  calls = begin 0 (sendTo 1 (5 ∷ []) 1 Absent) ∷ steps 4 0 ++ tick ∷ steps 3 0;
+  result = record {
+    answers = Accepted ∷ Moved ∷ Moved ∷ Moved ∷ Asleep ∷ Accepted ∷ Moved ∷ Moved ∷ Moved ∷ [];
+    threads = thread release noFlags nobody [] (codeOnly sendTimeOver) ∷ thread idle noFlags 0 [] (codeOnly neverBegun) ∷ [];
+    store = words 0 0 (untouched []);
+    order = some (begins 0 (sendTo 1 (5 ∷ []) 1 Absent)) ∷ none ∷ none ∷ none ∷ none ∷ some ticksOn ∷ none ∷ none ∷ some (aborts 0 sendTimeOver) ∷ [];
+  };
+}
