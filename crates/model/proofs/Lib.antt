@@ -3,3 +3,4 @@ pub mod Chains
 pub mod Tested
 pub mod Computing
 pub mod Marked
+pub mod Clauses

@@ -11,7 +11,7 @@ use Rattle.model.specs.declared.Thread.{Thread}
 use Rattle.model.specs.declared.Table.{Table}
 use Rattle.model.specs.Lists.{bit, occurs}
 use Rattle.model.specs.Threads.{nobody, at, senders, lockHeld}
-use Rattle.model.specs.WellFormed.{sizeInRange, sendsTo, chain, Each, WellFormed, each, allUnder, queueTest, ownerTest, chainTest, wellFormed}
+use Rattle.model.specs.WellFormed.{sizeInRange, sendsTo, chain, Each, WellFormed, each, allUnder, queueTest, ownerTest, chainTest, clauses, wellFormed}
 use Rattle.model.proofs.Laws.{by, and-left, and-right, and-made, equal-alike-read, equal-alike-made, _and_, all-of-read, all-of-made, all-below-read, all-below-made, occurs-first}
 use Rattle.model.proofs.Chains.{chains-long}
 
@@ -76,7 +76,7 @@ module _ (t : Table) where
 -- ---- the whole table
 -- a well-formed table passes the test
 pub well-formed-tested : (t : Table) → WellFormed t → wellFormed t ≡ true
-unfolding wellFormed
+unfolding wellFormed clauses
 well-formed-tested t w = all-of-made _ (
     w .size
     and each-same t _ .0 (w .numbers)
@@ -100,7 +100,7 @@ well-formed-tested t w = all-of-made _ (
 
 -- a table that passes the test is well-formed
 pub well-formed-told : (t : Table) → wellFormed t ≡ true → WellFormed t
-unfolding wellFormed
+unfolding wellFormed clauses
 well-formed-told t e =
     let (size, (numbers, (ipcExactly, (bare, (others, (queues, (owners, (chains, more)))))))) = all-of-read _ e in
     let (sendAndMark, (poll, (receiving, (withoutSend, (idleFlags, (releaseTarget, (sendClear, (sendSet, (copies, end))))))))) = more in

@@ -178,8 +178,9 @@ ownerTest t r = allBelow (t .n) (λ o. Bool·beq (eqb (at t r .owner) o) (eqb (l
 unfoldable pub chainTest : Table → ℕ → Bool
 chainTest t r = allBelow (t .n) (λ k. not (eqb (chain t (suc k) r) r))
 
-unfoldable pub wellFormed : Table → Bool
-wellFormed t = allOf (
+-- a test for each clause, in the order of document 01's list
+unfoldable pub clauses : Table → List Bool
+clauses t =
     sizeInRange (t .n)
     ∷ each t (λ x h. numbersInRange (t .n) h)
     ∷ each t (λ x h. ipcWithRunning h)
@@ -198,4 +199,6 @@ wellFormed t = allOf (
     ∷ each t (λ x h. sendersSendSet h)
     ∷ each t (copiesToReady t)
     ∷ []
-    )
+
+unfoldable pub wellFormed : Table → Bool
+wellFormed t = allOf (clauses t)

@@ -1,0 +1,179 @@
+-- Each clause of well-formedness counts: for each there is a table that breaks it and no other. And a table is accepted that is odd only
+-- in what document 01's list does not ask.
+use mathlib.Core.Path.{_≡_, refl}
+use mathlib.Core.Bool.{Bool, true, false, cond}
+use mathlib.Core.List.{List, [], _∷_}
+use Prim.Native.Nat.{ℕ, suc}
+use lib.ListN.{replicate}
+use lib.IntN.{pos}
+use Rattle.model.specs.declared.Receive.the-variants.{Absent}
+use Rattle.model.specs.declared.Operation.{Operation}
+use Rattle.model.specs.declared.Outcome.{Outcome}
+use Rattle.model.specs.declared.Thread.{Thread}
+use Rattle.model.specs.declared.Table.{Table}
+use Rattle.model.specs.Threads.{done, running, neverBegun, nobody, codeOnly, idle, lock, check, copy, release, sleep, look, wake, unknown, newTable, edit, withFlags, entering, withOp, withLeft, withQueue, withOwner, withOutcome, withCopied, withWaking, polled, marked, withoutReceive}
+use Rattle.model.specs.WellFormed.{clauses, wellFormed}
+use Rattle.model.specs.Calls.{begun, Call, begin, step}
+use Rattle.model.specs.Promise.{state}
+use Rattle.model.specs.Marked.{run, sendTo, receiveOnly, openFor, closedFor, flags}
+use Rattle.model.proofs.Computing.{computing}
+
+-- the places of a list of tests at which one fails
+unfoldable pub failing : ℕ → List Bool → List ℕ
+failing k [] = []
+failing k (b ∷ bs) = let later = failing (suc k) bs in cond b later (k ∷ later)
+
+-- a table of three threads after some calls
+unfoldable pub after : List Call → Table
+after calls = run (state (newTable 3) (replicate 24 0)) calls .table
+
+-- 1 receives; 0 sends to 1, and has its lock; 0 copies to 1
+unfoldable pub receiver : Table
+receiver = after (begin 1 (receiveOnly (openFor 15)) ∷ [])
+
+unfoldable pub sender : Table
+sender = after (begin 0 (sendTo 1 (5 ∷ []) 15 Absent) ∷ [])
+
+unfoldable pub locker : Table
+locker = after (begin 0 (sendTo 1 (5 ∷ []) 15 Absent) ∷ step 0 ∷ [])
+
+unfoldable pub copier : Table
+copier = after (begin 1 (receiveOnly (openFor 15)) ∷ begin 0 (sendTo 1 (5 ∷ []) 15 Absent) ∷ step 0 ∷ step 0 ∷ [])
+
+-- 0 and 1 send to each other
+unfoldable pub crossed : Table
+crossed = after (begin 0 (sendTo 1 (5 ∷ []) 15 Absent) ∷ begin 1 (sendTo 0 (5 ∷ []) 15 Absent) ∷ [])
+
+-- 1 wakes 0
+unfoldable pub waker : Table
+waker = after (begin 0 (sendTo 1 (5 ∷ []) 15 Absent) ∷ step 0 ∷ step 0 ∷ step 0 ∷ begin 1 (receiveOnly (openFor 15)) ∷ step 1 ∷ [])
+
+-- ---- a table for each clause, in the order of document 01's list
+pub data Clause : Type 0 where
+  size numbers ipcExactly bare others queues owners chains sendAndMark poll receiving withoutSend idleFlags releaseTarget sendClear sendSet copies : Clause
+
+unfoldable pub broken : Clause → Table
+broken size = newTable 0
+broken numbers = edit 0 (entering unknown) (newTable 3)
+broken ipcExactly = edit 0 (withOutcome (codeOnly running)) (newTable 3)
+broken bare = edit 0 (withOutcome (record { code = neverBegun; source = 1; count = 0 })) (newTable 3)
+broken others = edit 1 (withOp (receiveOnly (closedFor 1 15))) receiver
+broken queues = edit 1 (withQueue (record { items = replicate 32 0; len = 0 })) sender
+broken owners = edit 1 (withOwner nobody) locker
+broken chains = edit 0 (λ h. entering check (withOwner 1 h)) (edit 1 (λ h. entering check (withOwner 0 h)) crossed)
+broken sendAndMark = edit 0 (λ h. entering look (marked h)) (newTable 3)
+broken poll = edit 1 (polled true) receiver
+broken receiving = edit 1 (withFlags (flags 1 0 0 0 0)) receiver
+broken withoutSend = edit 1 (λ h. withoutReceive (withFlags (flags 1 0 0 0 0) h)) receiver
+broken idleFlags = edit 1 (entering idle) receiver
+broken releaseTarget = edit 0 (λ h. entering release (withOp (sendTo 3 [] 15 Absent) h)) (newTable 3)
+broken sendClear = edit 0 (entering look) sender
+broken sendSet = edit 1 (entering sleep) receiver
+broken copies = edit 1 marked copier
+
+unfoldable pub place : Clause → ℕ
+place size = 0
+place numbers = 1
+place ipcExactly = 2
+place bare = 3
+place others = 4
+place queues = 5
+place owners = 6
+place chains = 7
+place sendAndMark = 8
+place poll = 9
+place receiving = 10
+place withoutSend = 11
+place idleFlags = 12
+place releaseTarget = 13
+place sendClear = 14
+place sendSet = 15
+place copies = 16
+
+-- opens the tables above
+unfoldable pub tables : ℕ
+unfolding computing failing after receiver sender locker copier crossed waker broken place
+tables = 0
+
+-- each table breaks its own clause and no other
+pub clause-counts : (c : Clause) → failing 0 (clauses (broken c)) ≡ place c ∷ []
+unfolding tables
+clause-counts size = refl
+clause-counts numbers = refl
+clause-counts ipcExactly = refl
+clause-counts bare = refl
+clause-counts others = refl
+clause-counts queues = refl
+clause-counts owners = refl
+clause-counts chains = refl
+clause-counts sendAndMark = refl
+clause-counts poll = refl
+clause-counts receiving = refl
+clause-counts withoutSend = refl
+clause-counts idleFlags = refl
+clause-counts releaseTarget = refl
+clause-counts sendClear = refl
+clause-counts sendSet = refl
+clause-counts copies = refl
+
+-- ---- "every number in use is in range": a table for each number
+pub data Number : Type 0 where
+  phase target count sendTime receiveTime partner sendPart left owner code source wordCount copied waking : Number
+
+unfoldable pub outOfRange : Number → Table
+outOfRange phase = edit 0 (entering unknown) (newTable 3)
+outOfRange target = edit 1 (withOp (sendTo 3 [] 15 (openFor 15))) receiver
+outOfRange count = edit 0 (withOp (record { send = record { present = true; target = 1; count = 9; time = 15; words = replicate 8 0 }; receive = Absent })) sender
+outOfRange sendTime = edit 0 (withOp (sendTo 1 [] 16 Absent)) sender
+outOfRange receiveTime = edit 1 (withOp (receiveOnly (openFor 16))) receiver
+outOfRange partner = edit 1 (withOp (receiveOnly (closedFor 3 15))) receiver
+outOfRange sendPart = edit 0 (withOp (record { send = record { present = false; target = 1; count = 0; time = 15; words = replicate 8 0 }; receive = Absent })) sender
+outOfRange left = edit 1 (withLeft 20001) receiver
+outOfRange owner = edit 0 (withOwner 3) (newTable 3)
+outOfRange code = edit 0 (withOutcome (codeOnly (pos 3))) (newTable 3)
+outOfRange source = edit 0 (withOutcome (record { code = done; source = 3; count = 0 })) (newTable 3)
+outOfRange wordCount = edit 0 (withOutcome (record { code = done; source = 1; count = 9 })) (newTable 3)
+outOfRange copied = edit 0 (withCopied 2) copier
+outOfRange waking = edit 1 (withWaking 3) (edit 0 (withOwner nobody) waker)
+
+pub number-counts : (k : Number) → failing 0 (clauses (outOfRange k)) ≡ 1 ∷ []
+unfolding tables outOfRange
+number-counts phase = refl
+number-counts target = refl
+number-counts count = refl
+number-counts sendTime = refl
+number-counts receiveTime = refl
+number-counts partner = refl
+number-counts sendPart = refl
+number-counts left = refl
+number-counts owner = refl
+number-counts code = refl
+number-counts source = refl
+number-counts wordCount = refl
+number-counts copied = refl
+number-counts waking = refl
+
+-- ---- what the list does not ask
+pub data Odd : Type 0 where
+  -- a woken sender that is not in the waker's queue; `poll` clear in check; `left` above its code's count; a count without a source;
+  -- code 2 in release; numbers of an ended operation; a queue place past the length
+  wokenElsewhere pollClear leftAbove countAlone neverBegunInRelease endedNumbers pastTheQueue : Odd
+
+unfoldable pub odd : Odd → Table
+odd wokenElsewhere = edit 2 (λ h. entering wake (withWaking 0 (begun (receiveOnly (openFor 15)) look h))) (edit 0 (withOwner 2) sender)
+odd pollClear = edit 0 (polled false) locker
+odd leftAbove = edit 1 (withLeft 20000) (after (begin 1 (receiveOnly (openFor 1)) ∷ []))
+odd countAlone = edit 0 (withOutcome (record { code = done; source = nobody; count = 8 })) (newTable 3)
+odd neverBegunInRelease = edit 0 (λ h. entering release (withOp (sendTo 1 [] 15 Absent) h)) (edit 1 (withOwner 0) (newTable 3))
+odd endedNumbers = edit 0 (λ h. withLeft 30000 (withOp (sendTo 0 [] 99 (closedFor 99 99)) h)) (newTable 3)
+odd pastTheQueue = edit 1 (withQueue (record { items = 77 ∷ replicate 31 0; len = 0 })) (newTable 3)
+
+pub odd-accepted : (k : Odd) → wellFormed (odd k) ≡ true
+unfolding tables odd
+odd-accepted wokenElsewhere = refl
+odd-accepted pollClear = refl
+odd-accepted leftAbove = refl
+odd-accepted countAlone = refl
+odd-accepted neverBegunInRelease = refl
+odd-accepted endedNumbers = refl
+odd-accepted pastTheQueue = refl
