@@ -4,3 +4,5 @@ pub mod Tested
 pub mod Computing
 pub mod Marked
 pub mod Clauses
+pub mod Printed
+pub mod Free

@@ -1,0 +1,92 @@
+-- The list of what document 01 leaves free, with what ours holds there. Each is settled by a definition; here it is said in one place.
+use mathlib.Core.Path.{_≡_, refl}
+use mathlib.Core.Bool.{Bool, true}
+use mathlib.Core.List.{List, [], _++_}
+use Prim.Native.Nat.{ℕ, suc, _-_, _+_}
+use lib.ListN.{set, drop, replicate}
+use lib.IntN.{ℤ}
+use Rattle.model.specs.declared.Receive.the-variants.{Absent}
+use Rattle.model.specs.declared.Operation.{Operation}
+use Rattle.model.specs.declared.Thread.{Thread}
+use Rattle.model.specs.declared.Table.{Table}
+use Rattle.model.specs.Lists.{without}
+use Rattle.model.specs.Threads.{noReceiver, codeOnly, Phase, noOperation, newThread, newTable, edit, ended, senders, joined, departed}
+use Rattle.model.specs.Step.{giveUp, finishCall, finishSend, endWait, ownAfter, received}
+use Rattle.model.specs.Calls.{begun, targetBeyond, beginTable, State}
+use Rattle.model.specs.Refusals.{unless, makeRefusal, outcomeRefusal}
+use Rattle.model.specs.Promise.{made, outcomeWords}
+use Rattle.model.specs.Schedule.{decodeRefusal, decode}
+
+-- what an ending can leave as it was: the operation, `left`, and the two numbers that belong to other phases
+pub record Keeps (before after : Thread) : Type 0 where
+  pub operation : after .op ≡ before .op
+  pub left : after .left ≡ before .left
+  pub copied : after .copied ≡ before .copied
+  pub waking : after .waking ≡ before .waking
+
+-- 1. the table where none is made: one of no thread
+pub unmade : (n g : ℕ) → makeRefusal n ≡ suc g → made n .table ≡ newTable 0
+unfolding made unless
+unmade n g e = rw e refl
+
+-- 2. the numbers of a new table's unused fields: zero
+pub new-numbers : (newThread .op ≡ noOperation) × (newThread .queue .items ≡ replicate 32 0) × (newThread .copied ≡ 0) × (newThread .waking ≡ 0)
+unfolding newThread
+new-numbers = (refl, refl, refl, refl)
+
+-- 3. after -2: the thread ends as it stood, and no other is touched
+pub beyond : (x : ℕ) (o : Operation) (t : Table) → targetBeyond (t .n) o ≡ true → beginTable x o t ≡ edit x (ended (codeOnly noReceiver)) t
+unfolding beginTable
+beyond x o t e = rw e refl
+
+pub after-beyond : (h : Thread) → Keeps h (ended (codeOnly noReceiver) h)
+after-beyond h = record { operation = refl; left = refl; copied = refl; waking = refl }
+
+-- 4. after a completed send: the operation and `left` stay as they were
+pub after-send : (h : Thread) → Keeps h (ownAfter finishSend h)
+unfolding ownAfter
+after-send h = record { operation = refl; left = refl; copied = refl; waking = refl }
+
+-- 5. after -5 and -3: the same
+pub after-wait : (c : ℤ) (h : Thread) → Keeps h (ownAfter (endWait c) h)
+unfolding ownAfter
+after-wait c h = record { operation = refl; left = refl; copied = refl; waking = refl }
+
+-- 6. after a completed receive: the same, whatever phase the receiver is in
+pub after-receive : (x : ℕ) (h r : Thread) → Keeps r (received x h r)
+unfolding received departed
+after-receive x h r = record { operation = refl; left = refl; copied = refl; waking = refl }
+
+-- 7. after -6 and -4: the send part and `left` stay as they were; that the receive part is dropped is document 01's
+pub after-abort : (c : ℤ) (h : Thread) → (ownAfter (giveUp c) h .op .send ≡ h .op .send) × (ownAfter (giveUp c) h .op .receive ≡ Absent) × (ownAfter (giveUp c) h .left ≡ h .left)
+unfolding ownAfter
+after-abort c h = (refl, refl, refl)
+
+-- 8. a call past its send part: the send part stays stored
+pub after-first-part : (h : Thread) → ownAfter finishCall h .op ≡ h .op
+unfolding ownAfter
+after-first-part h = refl
+
+-- 9. words copied and the woken sender outside their phases: what they last were
+pub at-begin : (o : Operation) (p : Phase) (h : Thread) → (begun o p h .copied ≡ h .copied) × (begun o p h .waking ≡ h .waking)
+unfolding begun
+at-begin o p h = (refl, refl)
+
+-- 10. queue places past the length: what they last held
+pub at-join : (s : ℕ) (h : Thread) → joined s h .queue .items ≡ set (h .queue .items) (h .queue .len) s
+unfolding joined
+at-join s h = refl
+
+pub at-leave : (s : ℕ) (h : Thread) → departed s h .queue .items ≡ without s (senders h) ++ drop (h .queue .len - 1) (h .queue .items)
+unfolding departed
+at-leave s h = refl
+
+-- 11. the words of a refused outcome: none
+pub no-words : (s : State) (x g : ℕ) → outcomeRefusal s x ≡ suc g → outcomeWords s x ≡ []
+unfolding outcomeWords unless
+no-words s x g e = rw e refl
+
+-- 12. the record of a refused reading: all zero
+pub no-record : (first : Bool) (bytes : List ℕ) (g : ℕ) → decodeRefusal first bytes ≡ suc g → decode first bytes .item ≡ record { kind = 0; thread = 0; op = noOperation }
+unfolding decode unless
+no-record first bytes g e = rw e refl

@@ -1,0 +1,63 @@
+-- What `bondtrace` prints, worked out for document 01's own examples.
+use mathlib.Core.Path.{_≡_, refl}
+use mathlib.Core.List.{List, [], _∷_, _++_}
+use Prim.Native.Nat.{ℕ}
+use lib.ListN.{take}
+use Rattle.model.specs.declared.Receive.the-variants.{Absent}
+use Rattle.model.specs.declared.Operation.{Operation}
+use Rattle.model.specs.declared.Record.{Record}
+use Rattle.model.specs.Threads.{noOperation}
+use Rattle.model.specs.Schedule.{encodeAll, decodeAll}
+use Rattle.model.specs.Bondtrace.{ascii, bondtrace}
+use Rattle.model.specs.Marked.{sendTo, receiveOnly, openFor}
+use Rattle.model.proofs.Computing.{computing}
+
+-- a record without an operation, and a begin
+abbrev short : ℕ → ℕ → Record
+short kind thread = record { kind = kind; thread = thread; op = noOperation }
+
+abbrev beginning : ℕ → Operation → Record
+beginning thread o = record { kind = 1; thread = thread; op = o }
+
+-- P1 as a schedule
+unfoldable pub p1 : List Record
+p1 =
+    short 0 2 ∷ beginning 1 (receiveOnly (openFor 15)) ∷ beginning 0 (sendTo 1 (250 ∷ []) 15 Absent)
+    ∷ short 2 0 ∷ short 2 0 ∷ short 2 0 ∷ short 2 0 ∷ short 2 0 ∷ short 2 1 ∷ []
+
+-- its bytes
+unfoldable pub p1-bytes : List ℕ
+p1-bytes =
+    0x4C ∷ 0x34 ∷ 0 ∷ 2
+    ∷ 0x4C ∷ 0x34 ∷ 1 ∷ 1 ∷ 6 ∷ 0 ∷ 0 ∷ 0 ∷ 0 ∷ 15 ∷ 0 ∷ 0 ∷ 0 ∷ 0 ∷ 0 ∷ 0 ∷ 0 ∷ 0 ∷ 0 ∷ 0 ∷ 0 ∷ 0 ∷ 0 ∷ 0 ∷ 0 ∷ 0 ∷ 0 ∷ 0 ∷ 0 ∷ 0 ∷ 0 ∷ 0 ∷ 0 ∷ 0 ∷ 0 ∷ 0 ∷ 0 ∷ 0 ∷ 0 ∷ 0 ∷ 0 ∷ 0
+    ∷ 0x4C ∷ 0x34 ∷ 1 ∷ 0 ∷ 1 ∷ 1 ∷ 0 ∷ 1 ∷ 15 ∷ 0 ∷ 250 ∷ 0 ∷ 0 ∷ 0 ∷ 0 ∷ 0 ∷ 0 ∷ 0 ∷ 0 ∷ 0 ∷ 0 ∷ 0 ∷ 0 ∷ 0 ∷ 0 ∷ 0 ∷ 0 ∷ 0 ∷ 0 ∷ 0 ∷ 0 ∷ 0 ∷ 0 ∷ 0 ∷ 0 ∷ 0 ∷ 0 ∷ 0 ∷ 0 ∷ 0 ∷ 0 ∷ 0
+    ∷ 0x4C ∷ 0x34 ∷ 2 ∷ 0
+    ∷ 0x4C ∷ 0x34 ∷ 2 ∷ 0
+    ∷ 0x4C ∷ 0x34 ∷ 2 ∷ 0
+    ∷ 0x4C ∷ 0x34 ∷ 2 ∷ 0
+    ∷ 0x4C ∷ 0x34 ∷ 2 ∷ 0
+    ∷ 0x4C ∷ 0x34 ∷ 2 ∷ 1
+    ∷ []
+
+pub p1-encoded : encodeAll p1 ≡ p1-bytes
+unfolding computing p1 p1-bytes
+p1-encoded = refl
+
+pub p1-decoded : decodeAll p1-bytes .records ≡ p1
+unfolding computing p1 p1-bytes
+p1-decoded = refl
+
+-- "P1 below prints exactly"
+pub p1-printed : bondtrace p1-bytes ≡ ascii "records 9 refused 0\n0 0 255 0\n1 0 0 1 250\n"
+unfolding computing p1-bytes
+p1-printed = refl
+
+-- "`bad 12 at 46`": P1 cut short within its third record
+pub cut-short : bondtrace (take 60 p1-bytes) ≡ ascii "bad 12 at 46\n"
+unfolding computing p1-bytes
+cut-short = refl
+
+-- "input empty"
+pub empty-input : bondtrace [] ≡ ascii "bad 12 at 0\n"
+unfolding computing
+empty-input = refl
