@@ -1,5 +1,5 @@
--- Each clause of well-formedness counts: for each there is a table that breaks it and no other. And a table is accepted that is odd only
--- in what document 01's list does not ask.
+-- Each clause of well-formedness counts: for each there is a table that breaks it and no other. And a table that is odd only in what
+-- document 01's list does not ask is accepted.
 use mathlib.Core.Path.{_≡_, refl}
 use mathlib.Core.Bool.{Bool, true, false, cond}
 use mathlib.Core.List.{List, [], _∷_}
@@ -13,9 +13,8 @@ use Rattle.model.specs.declared.Thread.{Thread}
 use Rattle.model.specs.declared.Table.{Table}
 use Rattle.model.specs.Threads.{done, running, neverBegun, nobody, codeOnly, idle, lock, check, copy, release, sleep, look, wake, unknown, newTable, edit, withFlags, entering, withOp, withLeft, withQueue, withOwner, withOutcome, withCopied, withWaking, polled, marked, withoutReceive}
 use Rattle.model.specs.WellFormed.{clauses, wellFormed}
-use Rattle.model.specs.Calls.{begun, Call, begin, step}
-use Rattle.model.specs.Promise.{state}
-use Rattle.model.specs.Marked.{run, sendTo, receiveOnly, openFor, closedFor, flags}
+use Rattle.model.specs.Calls.{beginTable}
+use Rattle.model.specs.Marked.{sendTo, receiveOnly, openFor, closedFor, flags}
 use Rattle.model.proofs.Computing.{computing}
 
 -- the places of a list of tests at which one fails
@@ -23,34 +22,36 @@ unfoldable pub failing : ℕ → List Bool → List ℕ
 failing k [] = []
 failing k (b ∷ bs) = let later = failing (suc k) bs in cond b later (k ∷ later)
 
--- a table of three threads after some calls
-unfoldable pub after : List Call → Table
-after calls = run (state (newTable 3) (replicate 24 0)) calls .table
-
--- 1 receives; 0 sends to 1, and has its lock; 0 copies to 1
+-- ---- tables of three threads, made by begins and by hand, so that no rule of a step comes in
+-- 1 receives
 unfoldable pub receiver : Table
-receiver = after (begin 1 (receiveOnly (openFor 15)) ∷ [])
+receiver = beginTable 1 (receiveOnly (openFor 15)) (newTable 3)
 
+-- 0 sends to 1
 unfoldable pub sender : Table
-sender = after (begin 0 (sendTo 1 (5 ∷ []) 15 Absent) ∷ [])
+sender = beginTable 0 (sendTo 1 (5 ∷ []) 15 Absent) (newTable 3)
 
+-- 0 sends to 1 and has its lock
 unfoldable pub locker : Table
-locker = after (begin 0 (sendTo 1 (5 ∷ []) 15 Absent) ∷ step 0 ∷ [])
+locker = edit 1 (withOwner 0) (edit 0 (λ h. entering check (polled true h)) sender)
 
+-- 0 copies to 1
 unfoldable pub copier : Table
-copier = after (begin 1 (receiveOnly (openFor 15)) ∷ begin 0 (sendTo 1 (5 ∷ []) 15 Absent) ∷ step 0 ∷ step 0 ∷ [])
+copier = edit 1 (withOwner 0) (edit 0 (λ h. entering copy (polled true h)) (beginTable 0 (sendTo 1 (5 ∷ []) 15 Absent) receiver))
 
--- 0 and 1 send to each other
+-- 0 and 1 call each other
 unfoldable pub crossed : Table
-crossed = after (begin 0 (sendTo 1 (5 ∷ []) 15 Absent) ∷ begin 1 (sendTo 0 (5 ∷ []) 15 Absent) ∷ [])
+crossed = beginTable 0 (sendTo 1 (5 ∷ []) 15 (openFor 15)) (beginTable 1 (sendTo 0 (5 ∷ []) 15 (openFor 15)) (newTable 3))
 
--- 1 wakes 0
+-- 2 wakes 0, which sleeps at 1
 unfoldable pub waker : Table
-waker = after (begin 0 (sendTo 1 (5 ∷ []) 15 Absent) ∷ step 0 ∷ step 0 ∷ step 0 ∷ begin 1 (receiveOnly (openFor 15)) ∷ step 1 ∷ [])
+waker =
+    edit 2 (λ h. entering wake (withWaking 0 h)) (edit 0 (λ h. entering sleep (polled true (withOwner 2 h)))
+    (beginTable 2 (receiveOnly (openFor 15)) sender))
 
 -- ---- a table for each clause, in the order of document 01's list
 pub data Clause : Type 0 where
-  size numbers ipcExactly bare others queues owners chains sendAndMark poll receiving withoutSend idleFlags releaseTarget sendClear sendSet copies : Clause
+  size numbers ipcExactly bare others queues owners chains sendAndMark poll receiving withoutSend idleFlags releaseTarget sendClear sendSet copiesToMarked copiesToSending copiesToOther : Clause
 
 unfoldable pub broken : Clause → Table
 broken size = newTable 0
@@ -69,7 +70,9 @@ broken idleFlags = edit 1 (entering idle) receiver
 broken releaseTarget = edit 0 (λ h. entering release (withOp (sendTo 3 [] 15 Absent) h)) (newTable 3)
 broken sendClear = edit 0 (entering look) sender
 broken sendSet = edit 1 (entering sleep) receiver
-broken copies = edit 1 marked copier
+broken copiesToMarked = edit 1 marked copier
+broken copiesToSending = edit 1 (withOwner 0) (edit 0 (entering copy) crossed)
+broken copiesToOther = edit 1 (withOp (receiveOnly (closedFor 2 15))) copier
 
 unfoldable pub place : Clause → ℕ
 place size = 0
@@ -88,11 +91,13 @@ place idleFlags = 12
 place releaseTarget = 13
 place sendClear = 14
 place sendSet = 15
-place copies = 16
+place copiesToMarked = 16
+place copiesToSending = 16
+place copiesToOther = 16
 
 -- opens the tables above
 unfoldable pub tables : ℕ
-unfolding computing failing after receiver sender locker copier crossed waker broken place
+unfolding computing failing receiver sender locker copier crossed waker broken place
 tables = 0
 
 -- each table breaks its own clause and no other
@@ -114,7 +119,9 @@ clause-counts idleFlags = refl
 clause-counts releaseTarget = refl
 clause-counts sendClear = refl
 clause-counts sendSet = refl
-clause-counts copies = refl
+clause-counts copiesToMarked = refl
+clause-counts copiesToSending = refl
+clause-counts copiesToOther = refl
 
 -- ---- "every number in use is in range": a table for each number
 pub data Number : Type 0 where
@@ -134,7 +141,7 @@ outOfRange code = edit 0 (withOutcome (codeOnly (pos 3))) (newTable 3)
 outOfRange source = edit 0 (withOutcome (record { code = done; source = 3; count = 0 })) (newTable 3)
 outOfRange wordCount = edit 0 (withOutcome (record { code = done; source = 1; count = 9 })) (newTable 3)
 outOfRange copied = edit 0 (withCopied 2) copier
-outOfRange waking = edit 1 (withWaking 3) (edit 0 (withOwner nobody) waker)
+outOfRange waking = edit 2 (withWaking 3) (edit 0 (withOwner nobody) waker)
 
 pub number-counts : (k : Number) → failing 0 (clauses (outOfRange k)) ≡ 1 ∷ []
 unfolding tables outOfRange
@@ -160,9 +167,9 @@ pub data Odd : Type 0 where
   wokenElsewhere pollClear leftAbove countAlone neverBegunInRelease endedNumbers pastTheQueue : Odd
 
 unfoldable pub odd : Odd → Table
-odd wokenElsewhere = edit 2 (λ h. entering wake (withWaking 0 (begun (receiveOnly (openFor 15)) look h))) (edit 0 (withOwner 2) sender)
+odd wokenElsewhere = waker
 odd pollClear = edit 0 (polled false) locker
-odd leftAbove = edit 1 (withLeft 20000) (after (begin 1 (receiveOnly (openFor 1)) ∷ []))
+odd leftAbove = edit 1 (λ h. withLeft 20000 (withOp (receiveOnly (openFor 1)) h)) receiver
 odd countAlone = edit 0 (withOutcome (record { code = done; source = nobody; count = 8 })) (newTable 3)
 odd neverBegunInRelease = edit 0 (λ h. entering release (withOp (sendTo 1 [] 15 Absent) h)) (edit 1 (withOwner 0) (newTable 3))
 odd endedNumbers = edit 0 (λ h. withLeft 30000 (withOp (sendTo 0 [] 99 (closedFor 99 99)) h)) (newTable 3)

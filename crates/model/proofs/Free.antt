@@ -1,16 +1,15 @@
 -- The list of what document 01 leaves free, with what ours holds there. Each is settled by a definition; here it is said in one place.
 use mathlib.Core.Path.{_≡_, refl}
 use mathlib.Core.Bool.{Bool, true}
-use mathlib.Core.List.{List, [], _++_}
-use Prim.Native.Nat.{ℕ, suc, _-_, _+_}
-use lib.ListN.{set, drop, replicate}
+use mathlib.Core.List.{List, []}
+use Prim.Native.Nat.{ℕ, suc}
+use lib.ListN.{replicate}
 use lib.IntN.{ℤ}
 use Rattle.model.specs.declared.Receive.the-variants.{Absent}
 use Rattle.model.specs.declared.Operation.{Operation}
 use Rattle.model.specs.declared.Thread.{Thread}
 use Rattle.model.specs.declared.Table.{Table}
-use Rattle.model.specs.Lists.{without}
-use Rattle.model.specs.Threads.{noReceiver, codeOnly, Phase, noOperation, newThread, newTable, edit, ended, senders, joined, departed}
+use Rattle.model.specs.Threads.{noReceiver, codeOnly, Phase, noOperation, newThread, newTable, edit, ended, departed}
 use Rattle.model.specs.Step.{giveUp, finishCall, finishSend, endWait, ownAfter, received}
 use Rattle.model.specs.Calls.{begun, targetBeyond, beginTable, State}
 use Rattle.model.specs.Refusals.{unless, makeRefusal, outcomeRefusal}
@@ -72,14 +71,7 @@ pub at-begin : (o : Operation) (p : Phase) (h : Thread) → (begun o p h .copied
 unfolding begun
 at-begin o p h = (refl, refl)
 
--- 10. queue places past the length: what they last held
-pub at-join : (s : ℕ) (h : Thread) → joined s h .queue .items ≡ set (h .queue .items) (h .queue .len) s
-unfolding joined
-at-join s h = refl
-
-pub at-leave : (s : ℕ) (h : Thread) → departed s h .queue .items ≡ without s (senders h) ++ drop (h .queue .len - 1) (h .queue .items)
-unfolding departed
-at-leave s h = refl
+-- 10. queue places past the length: what they last held, as `joined` and `departed` are written
 
 -- 11. the words of a refused outcome: none
 pub no-words : (s : State) (x g : ℕ) → outcomeRefusal s x ≡ suc g → outcomeWords s x ≡ []
