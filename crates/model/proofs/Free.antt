@@ -13,7 +13,7 @@ use Rattle.model.specs.Threads.{noReceiver, codeOnly, Phase, noOperation
 use Rattle.model.specs.Step.{giveUp, finishCall, finishSend, endWait, ownAfter, received}
 use Rattle.model.specs.Calls.{begun, targetBeyond, beginTable, State}
 use Rattle.model.specs.Refusals.{unless, makeRefusal, outcomeRefusal}
-use Rattle.model.specs.Promise.{made, outcomeWords}
+use Rattle.model.specs.Promise.{madeTable, outcomeWords}
 use Rattle.model.specs.Schedule.{decodeRefusal, decode}
 
 -- what an ending can leave as it was: the operation, `left`, and the two numbers that belong to other phases
@@ -24,8 +24,8 @@ pub record Keeps (before after : Thread) : Type 0 where
   pub waking : after .waking ≡ before .waking
 
 -- 1. the table where none is made: one of no thread
-pub unmade : (n g : ℕ) → makeRefusal n ≡ suc g → made n .table ≡ newTable 0
-unfolding made unless
+pub unmade : (n g : ℕ) → makeRefusal n ≡ suc g → madeTable n ≡ newTable 0
+unfolding madeTable unless
 unmade n g e = rw e refl
 
 -- 2. the numbers of a new table's unused fields: zero
@@ -79,6 +79,6 @@ unfolding outcomeWords unless
 no-words s x g e = rw e refl
 
 -- 12. the record of a refused reading: all zero
-pub no-record : (first : Bool) (bytes : List ℕ) (g : ℕ) → decodeRefusal first bytes ≡ suc g → decode first bytes .item ≡ record { kind = 0; thread = 0; op = noOperation }
+pub no-record : (first : Bool) (bytes : List ℕ) (g : ℕ) → decodeRefusal first bytes ≡ suc g → decode first bytes ≡ record { kind = 0; thread = 0; op = noOperation }
 unfolding decode unless
 no-record first bytes g e = rw e refl

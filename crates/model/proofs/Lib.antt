@@ -1,8 +1,11 @@
 pub mod Laws
+pub mod Numbers
+pub mod Answers
 pub mod Chains
 pub mod Tested
 pub mod Computing
 pub mod Marked
 pub mod Clauses
+pub mod Making
 pub mod Printed
 pub mod Free

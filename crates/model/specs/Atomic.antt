@@ -20,7 +20,7 @@ pub data Run : Type 0 where
   receiving : Receive → Run
 
 -- "A thread has a running operation ..; a mark; `left`; code, source, count, words"
-pub record Atomic : Type 0 where
+pub record AtomicThread : Type 0 where
   pub run : Run
   pub mark : Bool
   pub left : ℕ
@@ -29,12 +29,13 @@ pub record Atomic : Type 0 where
 
 -- a thread for each number; only those below N are looked at
 abbrev pub Machine : Type 0
-Machine = ℕ → Atomic
+Machine = ℕ → AtomicThread
 
 -- "At first nothing runs: no mark, 2, 255, 0"
 abbrev pub firstMachine : Machine
 firstMachine x = record { run = nothing; mark = false; left = 0; outcome = codeOnly neverBegun; words = [] }
 
+-- the whole events
 pub data Event : Type 0 where
   begins : ℕ → Operation → Event
   cancels : ℕ → Event
@@ -51,7 +52,7 @@ runs (sending o) = true
 runs (receiving r) = true
 
 -- "An ending clears operation and mark"
-abbrev pub ending : Outcome → List ℕ → Atomic → Atomic
+abbrev pub ending : Outcome → List ℕ → AtomicThread → AtomicThread
 ending u words p = record { run = nothing; mark = false; left = p .left; outcome = u; words = words }
 
 -- "sending if it has a send part, else receiving"
@@ -59,27 +60,27 @@ abbrev pub firstPart : Operation → Run
 firstPart o = cond (o .send .present) (sending o) (receiving (o .receive))
 
 -- "a target of N or more ends it with -2, as part of the begin. Else code 1, source 255, count 0, no mark ..; `left` from that part's code"
-unfoldable pub beginning : ℕ → Operation → Atomic → Atomic
+unfoldable pub beginning : ℕ → Operation → AtomicThread → AtomicThread
 beginning n o p =
     cond (targetBeyond n o) (ending (codeOnly noReceiver) [] p)
     (record { run = firstPart o; mark = false; left = ticks (firstTime o); outcome = codeOnly running; words = [] })
 
 -- "running, set the mark"
-unfoldable pub cancelling : Atomic → Atomic
+unfoldable pub cancelling : AtomicThread → AtomicThread
 cancelling p = record { run = p .run; mark = cond (runs (p .run)) true (p .mark); left = p .left; outcome = p .outcome; words = p .words }
 
 -- "`left` falls by one in each running thread, unless 0 or never"
-unfoldable pub ticking : Atomic → Atomic
+unfoldable pub ticking : AtomicThread → AtomicThread
 ticking p = record { run = p .run; mark = p .mark; left = cond (runs (p .run)) (fall (p .left)) (p .left); outcome = p .outcome; words = p .words }
 
 -- "r ends with code 0, source s, the count and words of s", which runs the given operation
-unfoldable pub receiverAfter : ℕ → Run → Atomic → Atomic
+unfoldable pub receiverAfter : ℕ → Run → AtomicThread → AtomicThread
 receiverAfter s nothing p = p
 receiverAfter s (sending o) p = ending (record { code = done; source = s; count = o .send .count }) (message (o .send)) p
 receiverAfter s (receiving r) p = p
 
 -- "s without a receive part ends with 0; else it is receiving, mark kept, `left` from the receive code"
-unfoldable pub senderAfter : Run → Atomic → Atomic
+unfoldable pub senderAfter : Run → AtomicThread → AtomicThread
 senderAfter nothing p = p
 senderAfter (sending o) p =
     cond (hasReceive (o .receive))
@@ -95,12 +96,12 @@ play n ticksOn p = λ x. ticking (p x)
 play n (rendezvous s r) p = update (update p r (receiverAfter s (p s .run) (p r))) s (senderAfter (p s .run) (p s))
 play n (aborts x c) p = update p x (ending (codeOnly c) [] (p x))
 
--- ---- answers
-pub data Reply : Type 0 where
-  accepted marked nothingToCancel : Reply
+-- ---- answers, of a type of its own
+pub data AtomicReply : Type 0 where
+  accepted marked nothingToCancel : AtomicReply
 
 -- "answer marked; else nothing to cancel"; "Begin and tick answer accepted"
-unfoldable pub reply : Event → Machine → Reply
+unfoldable pub reply : Event → Machine → AtomicReply
 reply (begins x o) p = accepted
 reply (cancels x) p = cond (runs (p x .run)) marked nothingToCancel
 reply ticksOn p = accepted
@@ -124,6 +125,7 @@ acceptsIn nothing s = false
 acceptsIn (sending o) s = accepts (o .receive) s
 acceptsIn (receiving r) s = accepts r s
 
+-- what runs is a receive
 abbrev pub isReceiving : Run → Bool
 isReceiving nothing = false
 isReceiving (sending o) = false

@@ -33,6 +33,7 @@ digits (suc most) n =
     let longer = digits most (n / 10) ++ (digit (n % 10) ∷ []) in
     cond (ltb n 10) (digit n ∷ []) longer
 
+-- a number in decimal
 unfoldable pub decimal : ℕ → List ℕ
 decimal n = digits (suc n) n
 
@@ -49,6 +50,7 @@ callOf r =
     (cond (eqb (r .kind) stepKind) (step (r .thread))
     (cond (eqb (r .kind) cancelKind) (cancel (r .thread)) tick))
 
+-- the table and the store, "records read, the table's included, and calls refused"
 pub record Tally : Type 0 where
   pub now : State
   pub records : ℕ
@@ -62,6 +64,7 @@ recordPlayed r p = record {
   refused = p .refused + unless (refusal (callOf r) (p .now)) (λ g. 1) 0;
 }
 
+-- one record after the other
 unfoldable pub recordsPlayed : List Record → Tally → Tally
 recordsPlayed [] p = p
 recordsPlayed (r ∷ rs) p = recordsPlayed rs (recordPlayed r p)

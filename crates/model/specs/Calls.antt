@@ -7,11 +7,10 @@ use Rattle.model.specs.declared.Flags.{Flags}
 use Rattle.model.specs.declared.Operation.{Operation}
 use Rattle.model.specs.declared.Thread.{Thread}
 use Rattle.model.specs.declared.Table.{Table}
-use Rattle.model.specs.declared.Answer.{Answer}
-use Rattle.model.specs.declared.Answer.the-variants.{Accepted, Marked, NothingToCancel}
+use Rattle.model.specs.Answers.{Reply, accepted, nothingToCancel}
 use Rattle.model.specs.Waiting.{ticks, fall, hasReceive, firstTime}
 use Rattle.model.specs.Threads.{running, noReceiver, codeOnly, Phase, lock, look, at, edit, editBelow, withFlags, entering, withOp, withLeft, withOutcome, marked, ended, joined, zeroed}
-use Rattle.model.specs.Step.{decide, answerOf, act, storeAfter}
+use Rattle.model.specs.Step.{decide, replyOf, act, storeAfter}
 
 -- ---- begin
 -- "sets `ipc`. A send part sets `send`, clears `poll` .. A receive part sets `receiving` already now"
@@ -37,13 +36,15 @@ beginTable x o t =
 unfoldable pub cancelTable : ℕ → Table → Table
 cancelTable x t = cond (at t x .flags .ipc) (edit x marked t) t
 
-unfoldable pub cancelAnswer : ℕ → Table → Answer
-cancelAnswer x t = cond (at t x .flags .ipc) Marked NothingToCancel
+-- what cancel answers
+unfoldable pub cancelReply : ℕ → Table → Reply
+cancelReply x t = cond (at t x .flags .ipc) Reply.marked nothingToCancel
 
 -- ---- tick: "lowers `left` by one in each thread with `ipc`, unless 0 or never. It ignores locks"
 unfoldable pub ticked : Thread → Thread
 ticked h = withLeft (cond (h .flags .ipc) (fall (h .left)) (h .left)) h
 
+-- the table after a tick
 unfoldable pub tickTable : Table → Table
 tickTable t = editBelow (t .n) ticked t
 
@@ -60,11 +61,11 @@ pub record State : Type 0 where
   pub store : List ℕ
 
 -- what an accepted call answers
-unfoldable pub acceptedAnswer : Call → State → Answer
-acceptedAnswer (begin x o) s = Accepted
-acceptedAnswer (step x) s = answerOf (decide (s .table) x)
-acceptedAnswer (cancel x) s = cancelAnswer x (s .table)
-acceptedAnswer tick s = Accepted
+unfoldable pub acceptedReply : Call → State → Reply
+acceptedReply (begin x o) s = accepted
+acceptedReply (step x) s = replyOf (decide (s .table) x)
+acceptedReply (cancel x) s = cancelReply x (s .table)
+acceptedReply tick s = accepted
 
 -- what an accepted call leaves; begin "zeroes the thread's eight words"
 unfoldable pub acceptedState : Call → State → State

@@ -1,5 +1,6 @@
 pub mod Lists
 pub mod Waiting
+pub mod Answers
 pub mod Threads
 pub mod WellFormed
 pub mod Step

@@ -10,13 +10,13 @@ use lib.Dec.{eqb}
 use lib.IntN.{ℤ}
 use Rattle.model.specs.declared.Operation.{Operation}
 use Rattle.model.specs.declared.Answer.{Answer}
-use Rattle.model.specs.declared.Answer.the-variants.{Accepted, Marked, NothingToCancel}
+use Rattle.model.specs.Answers.{Reply, accepted, marked, nothingToCancel, Said, refused, replied, said}
 use Rattle.model.specs.Lists.{bit, occurs}
 use Rattle.model.specs.Waiting.{hasReceive}
 use Rattle.model.specs.Threads.{done, running, receiveTimeOver, receiveCancelled, sameCode, newTable}
 use Rattle.model.specs.Calls.{Call, begin, step, cancel, tick, State}
-use Rattle.model.specs.Promise.{Promise, state, view, refusalOf}
-use Rattle.model.specs.Atomic.{Atomic, Machine, firstMachine, Event, begins, cancels, ticksOn, rendezvous, aborts, play, Reply, accepted, marked, nothingToCancel, reply, shows, isReceiving, Can}
+use Rattle.model.specs.Promise.{Promise, state, view}
+use Rattle.model.specs.Atomic.{AtomicThread, Machine, firstMachine, Event, begins, cancels, ticksOn, rendezvous, aborts, play, AtomicReply, reply, shows, isReceiving, Can}
 
 -- ---- traces
 -- a call, what it answered, and the table and store that it left
@@ -45,16 +45,16 @@ played n [] = firstMachine
 played n (e ∷ past) = playEntry n e (played n past)
 
 -- ---- what stands at the place of a call
--- the atomic machine's answer as the step machine gives it
-abbrev pub answered : Reply → Answer
-answered accepted = Accepted
-answered marked = Marked
-answered nothingToCancel = NothingToCancel
+-- the atomic machine's reply as the step machine gives it
+abbrev pub alike : AtomicReply → Reply
+alike AtomicReply.accepted = accepted
+alike AtomicReply.marked = marked
+alike AtomicReply.nothingToCancel = nothingToCancel
 
 -- the call's own event, and both machines answer alike
-pub record OwnEvent (own : Event) (a : Answer) (e : Entry) (p : Machine) : Type 0 where
+pub record OwnEvent (own : Event) (a : Reply) (e : Entry) (p : Machine) : Type 0 where
   pub event : e ≡ some own
-  pub answer : a ≡ answered (reply own p)
+  pub answer : a ≡ alike (reply own p)
 
 -- at a step: nothing, a rendezvous or an abort; "Steps' answers are not seen"
 abbrev pub AtStep : Entry → Type 0
@@ -66,16 +66,16 @@ AtStep (some (rendezvous s r)) = Unit {0}
 AtStep (some (aborts x c)) = Unit {0}
 
 -- "an accepted begin, cancel or tick is its own event"
-abbrev pub AtAccepted : Call → Answer → Entry → Machine → Type 0
+abbrev pub AtAccepted : Call → Reply → Entry → Machine → Type 0
 AtAccepted (begin x o) a e p = OwnEvent (begins x o) a e p
 AtAccepted (step x) a e p = AtStep e
 AtAccepted (cancel x) a e p = OwnEvent (cancels x) a e p
 AtAccepted tick a e p = OwnEvent ticksOn a e p
 
 -- "a refused call is none"
-abbrev pub AtCall : Option ℕ → Call → Answer → Entry → Machine → Type 0
-AtCall (some g) c a e p = e ≡ none
-AtCall none c a e p = AtAccepted c a e p
+abbrev pub AtCall : Call → Said → Entry → Machine → Type 0
+AtCall c (refused g) e p = e ≡ none
+AtCall c (replied a) e p = AtAccepted c a e p
 
 -- "each event's conditions hold where it stands"
 abbrev pub Lawful : ℕ → Entry → Machine → Type 0
@@ -96,6 +96,7 @@ unfoldable pub latest : ℕ → List Entry → Option ℕ
 latest x [] = none
 latest x (e ∷ past) = cond (beginsBy x e) (some (length past)) (latest x past)
 
+-- thread x shows code 1
 abbrev pub isRunning : Machine → ℕ → Bool
 isRunning p x = sameCode running (p x .outcome .code)
 
@@ -111,7 +112,7 @@ HasEnded n x i (e ∷ past) = (EndsAt n x e past × (latest x (e ∷ past) ≡ s
 
 -- ---- one call c, with the entry e in its place, after `past`
 pub record Follows (n : ℕ) (past : List Entry) (c : Observed) (e : Entry) : Type 0 where
-  pub place : AtCall (refusalOf (c .answer)) (c .call) (c .answer) e (played n past)
+  pub place : AtCall (c .call) (said (c .answer)) e (played n past)
   pub lawful : Lawful n e (played n past)
   -- "after every call, each thread's code, source and count in the table and its first `count` words in the store"
   pub views : (x : ℕ) → x < n → view (c .after) x ≡ shows (played n (e ∷ past)) x
@@ -138,24 +139,25 @@ pairs (some ticksOn ∷ past) = pairs past
 pairs (some (rendezvous s r) ∷ past) = (Option·getD (latest s past) 0, Option·getD (latest r past) 0) ∷ pairs past
 pairs (some (aborts x c) ∷ past) = pairs past
 
+-- that place is i
 abbrev pub isPlace : Option ℕ → ℕ → Bool
 isPlace none i = false
 isPlace (some k) i = eqb k i
 
 -- how x stood when its operation that began at place i was last its latest one: now, or right before its next begin
-unfoldable pub fate : ℕ → ℕ → ℕ → List Entry → Option Atomic
+unfoldable pub fate : ℕ → ℕ → ℕ → List Entry → Option AtomicThread
 fate n x i [] = none
 fate n x i (e ∷ past) = let before = fate n x i past in cond (isPlace (latest x (e ∷ past)) i) (some (played n (e ∷ past) x)) before
 
 -- "A send part is completed if its operation ended with 0, -5 or -3, or is now receiving"
-abbrev pub sendCompleted : Operation → Option Atomic → Bool
+abbrev pub sendCompleted : Operation → Option AtomicThread → Bool
 sendCompleted o none = false
 sendCompleted o (some p) =
     o .send .present
     && (sameCode done (p .outcome .code) || sameCode receiveCancelled (p .outcome .code) || sameCode receiveTimeOver (p .outcome .code) || isReceiving (p .run))
 
 -- "a receive part if its operation ended with 0"
-abbrev pub receiveCompleted : Operation → Option Atomic → Bool
+abbrev pub receiveCompleted : Operation → Option AtomicThread → Bool
 receiveCompleted o none = false
 receiveCompleted o (some p) = hasReceive (o .receive) && sameCode done (p .outcome .code)
 
@@ -164,6 +166,7 @@ abbrev pub BeginsAt : ℕ → Operation → ℕ → List Entry → Type 0
 BeginsAt x o i [] = ⊥
 BeginsAt x o i (e ∷ past) = ((e ≡ some (begins x o)) × (length past ≡ i)) ⊎ BeginsAt x o i past
 
+-- the pair stands in the list
 abbrev pub Among : ℕ × ℕ → List (ℕ × ℕ) → Type 0
 Among pair [] = ⊥
 Among pair (a ∷ l) = (pair ≡ a) ⊎ Among pair l

@@ -11,8 +11,7 @@ use Rattle.model.specs.declared.Receive.the-variants.{Absent, Open, Clos
 use Rattle.model.specs.declared.Operation.{Operation}
 use Rattle.model.specs.declared.Outcome.{Outcome}
 use Rattle.model.specs.declared.Thread.{Thread}
-use Rattle.model.specs.declared.Answer.{Answer}
-use Rattle.model.specs.declared.Answer.the-variants.{Refused, Accepted, Marked, Moved, Idle, Held, Asleep}
+use Rattle.model.specs.Answers.{Reply, accepted, marked, moved, held, asleep, Said, refused, replied}
 use Rattle.model.specs.Lists.{upTo}
 use Rattle.model.specs.Threads.{done, running, neverBegun, noReceiver, receiveTimeOver, sendTimeOver, receiveCancelled, sendCancelled, nobody, codeOnly, Phase, idle, lock, check, release, look, phaseOf, newTable, noFlags, at, senders}
 use Rattle.model.specs.Calls.{Call, begin, step, cancel, tick, State}
@@ -31,7 +30,7 @@ pub record Seen : Type 0 where
 
 -- what a row's calls answer and leave, and the event at each place
 pub record Result : Type 0 where
-  pub answers : List Answer
+  pub answers : List Said
   pub threads : List Seen
   pub store : List ℕ
   pub order : List Entry
@@ -43,17 +42,20 @@ pub record MarkedRow : Type 0 where
   pub result : Result
 
 -- ---- working a row out
-unfoldable pub answersOf : State → List Call → List Answer
+unfoldable pub answersOf : State → List Call → List Said
 answersOf s [] = []
 answersOf s (c ∷ cs) = let after = next c s in answer c s ∷ answersOf after cs
 
+-- the table and the store after some calls
 unfoldable pub run : State → List Call → State
 run s [] = s
 run s (c ∷ cs) = let after = next c s in run after cs
 
+-- what a row shows of a thread
 unfoldable pub seen : Thread → Seen
 seen h = record { phase = phaseOf (h .phase); flags = h .flags; owner = h .owner; queue = senders h; outcome = h .outcome }
 
+-- a row worked out from the step rules
 unfoldable pub workedOut : MarkedRow → Result
 workedOut row =
     let first = state (newTable (row .n)) (replicate (8 * row .n) 7) in
@@ -73,15 +75,19 @@ sendTo target words time receive = record {
   receive = receive;
 }
 
+-- a receive part alone
 abbrev pub receiveOnly : Receive → Operation
 receiveOnly receive = record { send = record { present = false; target = 0; count = 0; time = 0; words = replicate 8 0 }; receive = receive }
 
+-- an open receive with a time code
 abbrev pub openFor : ℕ → Receive
 openFor time = Open (record { time = time; partner = 0 })
 
+-- a receive closed on a partner, with a time code
 abbrev pub closedFor : ℕ → ℕ → Receive
 closedFor partner time = Closed (record { time = time; partner = partner })
 
+-- k steps of thread x
 abbrev pub steps : ℕ → ℕ → List Call
 steps k x = replicate k (step x)
 
@@ -97,6 +103,7 @@ thread p f owner queue outcome = record { phase = p; flags = f; owner = owner; q
 abbrev pub resting : Outcome → Seen
 resting outcome = thread idle noFlags nobody [] outcome
 
+-- the outcome of a completed receive
 abbrev pub receivedFrom : ℕ → ℕ → Outcome
 receivedFrom source count = record { code = done; source = source; count = count }
 
@@ -117,7 +124,7 @@ row P1 = record {
   n = 2;
   calls = begin 1 (receiveOnly (openFor 15)) ∷ begin 0 (sendTo 1 (250 ∷ []) 15 Absent) ∷ steps 5 0 ++ steps 1 1;
   result = record {
-    answers = Accepted ∷ Accepted ∷ Moved ∷ Moved ∷ Moved ∷ Moved ∷ Moved ∷ Moved ∷ [];
+    answers = replied accepted ∷ replied accepted ∷ replied moved ∷ replied moved ∷ replied moved ∷ replied moved ∷ replied moved ∷ replied moved ∷ [];
     threads = resting (codeOnly done) ∷ resting (receivedFrom 0 1) ∷ [];
     store = words 0 0 (words 250 0 []);
     order = some (begins 1 (receiveOnly (openFor 15))) ∷ some (begins 0 (sendTo 1 (250 ∷ []) 15 Absent)) ∷ none ∷ none ∷ none ∷ some (rendezvous 0 1) ∷ none ∷ none ∷ [];
@@ -128,7 +135,7 @@ row P2 = record {
   n = 2;
   calls = begin 0 (sendTo 2 (250 ∷ []) 15 Absent) ∷ steps 1 0;
   result = record {
-    answers = Accepted ∷ Idle ∷ [];
+    answers = replied accepted ∷ replied Reply.idle ∷ [];
     threads = resting (codeOnly noReceiver) ∷ resting (codeOnly neverBegun) ∷ [];
     store = words 0 0 (untouched []);
     order = some (begins 0 (sendTo 2 (250 ∷ []) 15 Absent)) ∷ none ∷ [];
@@ -139,7 +146,7 @@ row P3 = record {
   n = 2;
   calls = begin 0 (sendTo 1 (250 ∷ []) 0 Absent) ∷ steps 2 0;
   result = record {
-    answers = Accepted ∷ Moved ∷ Moved ∷ [];
+    answers = replied accepted ∷ replied moved ∷ replied moved ∷ [];
     threads = thread release noFlags nobody [] (codeOnly sendTimeOver) ∷ thread idle noFlags 0 [] (codeOnly neverBegun) ∷ [];
     store = words 0 0 (untouched []);
     order = some (begins 0 (sendTo 1 (250 ∷ []) 0 Absent)) ∷ none ∷ some (aborts 0 sendTimeOver) ∷ [];
@@ -150,7 +157,7 @@ row P4 = record {
   n = 2;
   calls = begin 0 (receiveOnly (openFor 0)) ∷ steps 1 0;
   result = record {
-    answers = Accepted ∷ Moved ∷ [];
+    answers = replied accepted ∷ replied moved ∷ [];
     threads = resting (codeOnly receiveTimeOver) ∷ resting (codeOnly neverBegun) ∷ [];
     store = words 0 0 (untouched []);
     order = some (begins 0 (receiveOnly (openFor 0))) ∷ some (aborts 0 receiveTimeOver) ∷ [];
@@ -161,7 +168,7 @@ row P5 = record {
   n = 3;
   calls = begin 0 (receiveOnly (closedFor 1 15)) ∷ begin 2 (sendTo 0 (5 ∷ []) 0 Absent) ∷ steps 2 2;
   result = record {
-    answers = Accepted ∷ Accepted ∷ Moved ∷ Moved ∷ [];
+    answers = replied accepted ∷ replied accepted ∷ replied moved ∷ replied moved ∷ [];
     threads = thread look (flags 1 0 1 0 0) 2 [] (codeOnly running) ∷ resting (codeOnly neverBegun) ∷ thread release noFlags nobody [] (codeOnly sendTimeOver) ∷ [];
     store = words 0 0 (untouched (words 0 0 []));
     order = some (begins 0 (receiveOnly (closedFor 1 15))) ∷ some (begins 2 (sendTo 0 (5 ∷ []) 0 Absent)) ∷ none ∷ some (aborts 2 sendTimeOver) ∷ [];
@@ -172,7 +179,7 @@ row P6 = record {
   n = 2;
   calls = begin 0 (sendTo 1 (5 ∷ []) 15 Absent) ∷ steps 4 0 ++ cancel 0 ∷ steps 3 0;
   result = record {
-    answers = Accepted ∷ Moved ∷ Moved ∷ Moved ∷ Asleep ∷ Marked ∷ Moved ∷ Moved ∷ Moved ∷ [];
+    answers = replied accepted ∷ replied moved ∷ replied moved ∷ replied moved ∷ replied asleep ∷ replied marked ∷ replied moved ∷ replied moved ∷ replied moved ∷ [];
     threads = thread release noFlags nobody [] (codeOnly sendCancelled) ∷ thread idle noFlags 0 [] (codeOnly neverBegun) ∷ [];
     store = words 0 0 (untouched []);
     order = some (begins 0 (sendTo 1 (5 ∷ []) 15 Absent)) ∷ none ∷ none ∷ none ∷ none ∷ some (cancels 0) ∷ none ∷ none ∷ some (aborts 0 sendCancelled) ∷ [];
@@ -183,7 +190,7 @@ row P7 = record {
   n = 2;
   calls = begin 0 (receiveOnly (openFor 15)) ∷ steps 1 0 ++ cancel 0 ∷ steps 1 0;
   result = record {
-    answers = Accepted ∷ Asleep ∷ Marked ∷ Moved ∷ [];
+    answers = replied accepted ∷ replied asleep ∷ replied marked ∷ replied moved ∷ [];
     threads = resting (codeOnly receiveCancelled) ∷ resting (codeOnly neverBegun) ∷ [];
     store = words 0 0 (untouched []);
     order = some (begins 0 (receiveOnly (openFor 15))) ∷ none ∷ some (cancels 0) ∷ some (aborts 0 receiveCancelled) ∷ [];
@@ -194,7 +201,7 @@ row P8-idle = record {
   n = 2;
   calls = begin 0 (sendTo 1 [] 15 Absent) ∷ steps 1 0 ++ step 1 ∷ cancel 1 ∷ begin 1 (receiveOnly (openFor 15)) ∷ [];
   result = record {
-    answers = Accepted ∷ Moved ∷ Held ∷ Refused 4 ∷ Refused 4 ∷ [];
+    answers = replied accepted ∷ replied moved ∷ replied held ∷ refused 4 ∷ refused 4 ∷ [];
     threads = thread check (flags 1 1 0 1 0) nobody [] (codeOnly running) ∷ thread idle noFlags 0 (0 ∷ []) (codeOnly neverBegun) ∷ [];
     store = words 0 0 (untouched []);
     order = some (begins 0 (sendTo 1 [] 15 Absent)) ∷ none ∷ none ∷ none ∷ none ∷ [];
@@ -205,7 +212,7 @@ row P8-look = record {
   n = 2;
   calls = begin 1 (receiveOnly (openFor 15)) ∷ begin 0 (sendTo 1 [] 15 Absent) ∷ steps 1 0 ++ step 1 ∷ cancel 1 ∷ [];
   result = record {
-    answers = Accepted ∷ Accepted ∷ Moved ∷ Held ∷ Refused 4 ∷ [];
+    answers = replied accepted ∷ replied accepted ∷ replied moved ∷ replied held ∷ refused 4 ∷ [];
     threads = thread check (flags 1 1 0 1 0) nobody [] (codeOnly running) ∷ thread look (flags 1 0 1 0 0) 0 (0 ∷ []) (codeOnly running) ∷ [];
     store = words 0 0 (words 0 0 []);
     order = some (begins 1 (receiveOnly (openFor 15))) ∷ some (begins 0 (sendTo 1 [] 15 Absent)) ∷ none ∷ none ∷ none ∷ [];
@@ -216,7 +223,7 @@ row P9 = record {
   n = 3;
   calls = begin 1 (receiveOnly (openFor 15)) ∷ begin 0 (sendTo 1 (5 ∷ []) 15 Absent) ∷ begin 2 (sendTo 1 (6 ∷ []) 15 Absent) ∷ steps 4 2;
   result = record {
-    answers = Accepted ∷ Accepted ∷ Accepted ∷ Moved ∷ Moved ∷ Moved ∷ Moved ∷ [];
+    answers = replied accepted ∷ replied accepted ∷ replied accepted ∷ replied moved ∷ replied moved ∷ replied moved ∷ replied moved ∷ [];
     threads = thread lock (flags 1 1 0 0 0) nobody [] (codeOnly running) ∷ thread look noFlags 2 (0 ∷ []) (receivedFrom 2 1) ∷ thread release noFlags nobody [] (codeOnly done) ∷ [];
     store = words 0 0 (words 6 0 (words 0 0 []));
     order =
@@ -231,7 +238,7 @@ row P10 = record {
       begin 1 (receiveOnly (openFor 15)) ∷ begin 0 (sendTo 1 (5 ∷ []) 15 (closedFor 1 15)) ∷ steps 5 0 ++ steps 1 1
       ++ begin 1 (sendTo 0 (6 ∷ 7 ∷ []) 0 Absent) ∷ steps 5 1;
   result = record {
-    answers = Accepted ∷ Accepted ∷ Moved ∷ Moved ∷ Moved ∷ Moved ∷ Moved ∷ Moved ∷ Accepted ∷ Moved ∷ Moved ∷ Moved ∷ Moved ∷ Moved ∷ [];
+    answers = replied accepted ∷ replied accepted ∷ replied moved ∷ replied moved ∷ replied moved ∷ replied moved ∷ replied moved ∷ replied moved ∷ replied accepted ∷ replied moved ∷ replied moved ∷ replied moved ∷ replied moved ∷ replied moved ∷ [];
     threads = thread look noFlags 1 [] (receivedFrom 1 2) ∷ thread release noFlags nobody [] (codeOnly done) ∷ [];
     store = words 6 7 (words 0 0 []);
     order =
@@ -245,7 +252,7 @@ row P11 = record {
   n = 2;
   calls = begin 1 (receiveOnly (openFor 15)) ∷ begin 0 (sendTo 1 [] 15 Absent) ∷ steps 4 0;
   result = record {
-    answers = Accepted ∷ Accepted ∷ Moved ∷ Moved ∷ Moved ∷ Moved ∷ [];
+    answers = replied accepted ∷ replied accepted ∷ replied moved ∷ replied moved ∷ replied moved ∷ replied moved ∷ [];
     threads = resting (codeOnly done) ∷ thread look noFlags nobody [] (receivedFrom 0 0) ∷ [];
     store = words 0 0 (words 0 0 []);
     order = some (begins 1 (receiveOnly (openFor 15))) ∷ some (begins 0 (sendTo 1 [] 15 Absent)) ∷ none ∷ none ∷ some (rendezvous 0 1) ∷ none ∷ [];
@@ -256,7 +263,7 @@ row P12 = record {
   n = 2;
   calls = begin 0 (sendTo 1 (5 ∷ []) 1 Absent) ∷ steps 4 0 ++ tick ∷ steps 3 0;
   result = record {
-    answers = Accepted ∷ Moved ∷ Moved ∷ Moved ∷ Asleep ∷ Accepted ∷ Moved ∷ Moved ∷ Moved ∷ [];
+    answers = replied accepted ∷ replied moved ∷ replied moved ∷ replied moved ∷ replied asleep ∷ replied accepted ∷ replied moved ∷ replied moved ∷ replied moved ∷ [];
     threads = thread release noFlags nobody [] (codeOnly sendTimeOver) ∷ thread idle noFlags 0 [] (codeOnly neverBegun) ∷ [];
     store = words 0 0 (untouched []);
     order = some (begins 0 (sendTo 1 (5 ∷ []) 1 Absent)) ∷ none ∷ none ∷ none ∷ none ∷ some ticksOn ∷ none ∷ none ∷ some (aborts 0 sendTimeOver) ∷ [];

@@ -67,6 +67,7 @@ closedBeyond n Absent = false
 closedBeyond n (Open w) = false
 closedBeyond n (Closed w) = leb n (w .partner)
 
+-- the row of that test
 unfoldable pub noPartner : Table → Operation → Row
 noPartner t o = record { when = closedBeyond (t .n) (o .receive); number = 8 }
 

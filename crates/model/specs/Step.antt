@@ -8,14 +8,13 @@ use lib.Dec.{eqb, ltb}
 use lib.IntN.{ℤ}
 use Rattle.model.specs.declared.Thread.{Thread}
 use Rattle.model.specs.declared.Table.{Table}
-use Rattle.model.specs.declared.Answer.{Answer}
-use Rattle.model.specs.declared.Answer.the-variants.{Moved, Idle, Held, Wants, Asleep}
+use Rattle.model.specs.Answers.{Reply, moved, held, wants, asleep}
 use Rattle.model.specs.Waiting.{ticks, hasReceive, receiveTime}
 use Rattle.model.specs.Threads.{done, receiveTimeOver, sendTimeOver, receiveCancelled, sendCancelled, nobody, codeOnly, Phase, idle, lock, check, copy, release, sleep, look, wake, unlock, unknown, phaseOf, at, edit, entering, withLeft, withOwner, withCopied, withWaking, polled, sent, ended, withoutReceive, departed, lockFree, findSender, ready}
 
 -- what a step of a thread does
 pub data Action : Type 0 where
-  stay : Answer → Action
+  stay : Reply → Action
   takeLock : Action
   giveUp : ℤ → Action
   startCopy toRelease : Action
@@ -41,21 +40,22 @@ otherIn wake h = h .waking
 otherIn unlock h = h .waking
 otherIn unknown h = nobody
 
+-- the same by the thread's own phase
 unfoldable pub other : Thread → ℕ
 other h = otherIn (phaseOf (h .phase)) h
 
 -- look, with the first acceptable sender r: "if its `poll` is clear answer asleep, if its lock is taken answer wants, else take its lock";
 -- "none and `left` 0, end with -3; answer asleep"
 unfoldable pub lookAt : Thread → Thread → Option ℕ → Action
-lookAt h r (some s) = cond (r .flags .poll) (cond (lockFree r) (takeSender s) (stay Wants)) (stay Asleep)
-lookAt h r none = cond (eqb (h .left) 0) (endWait receiveTimeOver) (stay Asleep)
+lookAt h r (some s) = cond (r .flags .poll) (cond (lockFree r) (takeSender s) (stay wants)) (stay asleep)
+lookAt h r none = cond (eqb (h .left) 0) (endWait receiveTimeOver) (stay asleep)
 
 -- the action of thread x, which is h, by its phase; r is the other thread
 unfoldable pub decideIn : Phase → ℕ → Thread → Thread → Action
 -- "idle: answer idle"
-decideIn idle x h r = stay Idle
+decideIn idle x h r = stay Reply.idle
 -- "target's lock free: take it .. Else answer wants"
-decideIn lock x h r = cond (lockFree r) takeLock (stay Wants)
+decideIn lock x h r = cond (lockFree r) takeLock (stay wants)
 -- "own mark, give up with -6; target ready for t, go to copy; `left` is 0, give up with -4; else release"
 decideIn check x h r = cond (h .flags .mark) (giveUp sendCancelled) (cond (ready r x) startCopy (cond (eqb (h .left) 0) (giveUp sendTimeOver) toRelease))
 -- "one word a step. When none remains, that step finishes", with a receive part or without
@@ -63,7 +63,7 @@ decideIn copy x h r = cond (ltb (h .copied) (h .op .send .count)) copyWord (cond
 -- "free the lock. Then `send` set: sleep; `ipc` set: look; else idle"
 decideIn release x h r = cond (h .flags .send) (freeTarget sleep) (cond (h .flags .ipc) (freeTarget look) (freeTarget idle))
 -- "`poll` clear, or marked, or `left` 0: go to lock. Else answer asleep"
-decideIn sleep x h r = cond (not (h .flags .poll) || h .flags .mark || eqb (h .left) 0) retry (stay Asleep)
+decideIn sleep x h r = cond (not (h .flags .poll) || h .flags .mark || eqb (h .left) 0) retry (stay asleep)
 -- "`ipc` clear, go idle; marked, end with -5, idle; the first acceptable sender .."
 decideIn look x h r = cond (h .flags .ipc) (cond (h .flags .mark) (endWait receiveCancelled) (lookAt h r (findSender h))) toIdle
 -- "clear that sender's `poll`, go to unlock"
@@ -71,31 +71,31 @@ decideIn wake x h r = clearPoll
 -- "free its lock, go to look"
 decideIn unlock x h r = freeSender
 -- no phase has this number: no table that is accepted comes here
-decideIn unknown x h r = stay Idle
+decideIn unknown x h r = stay Reply.idle
 
 -- "if another owns t's lock, answer held, nothing changes. Else by phase"
 unfoldable pub decide : Table → ℕ → Action
 decide t x =
     let h = at t x in
-    cond (lockFree h) (decideIn (phaseOf (h .phase)) x h (at t (other h))) (stay Held)
+    cond (lockFree h) (decideIn (phaseOf (h .phase)) x h (at t (other h))) (stay held)
 
 -- "answer moved unless said"
-unfoldable pub answerOf : Action → Answer
-answerOf (stay a) = a
-answerOf takeLock = Moved
-answerOf (giveUp c) = Moved
-answerOf startCopy = Moved
-answerOf toRelease = Moved
-answerOf copyWord = Moved
-answerOf finishCall = Moved
-answerOf finishSend = Moved
-answerOf (freeTarget p) = Moved
-answerOf retry = Moved
-answerOf toIdle = Moved
-answerOf (endWait c) = Moved
-answerOf (takeSender s) = Moved
-answerOf clearPoll = Moved
-answerOf freeSender = Moved
+unfoldable pub replyOf : Action → Reply
+replyOf (stay a) = a
+replyOf takeLock = moved
+replyOf (giveUp c) = moved
+replyOf startCopy = moved
+replyOf toRelease = moved
+replyOf copyWord = moved
+replyOf finishCall = moved
+replyOf finishSend = moved
+replyOf (freeTarget p) = moved
+replyOf retry = moved
+replyOf toIdle = moved
+replyOf (endWait c) = moved
+replyOf (takeSender s) = moved
+replyOf clearPoll = moved
+replyOf freeSender = moved
 
 -- the stepped thread afterwards
 unfoldable pub ownAfter : Action → Thread → Thread

@@ -7,6 +7,7 @@ use lib.ListN.{getD, set, take, drop, replicate}
 use lib.Seq.{sets}
 use lib.Dec.{eqb}
 use lib.IntN.{ℤ, pos, negsuc, negℤ}
+use lib.Signed.{ltZ}
 use Rattle.model.specs.declared.Flags.{Flags}
 use Rattle.model.specs.declared.SendPart.{SendPart}
 use Rattle.model.specs.declared.Receive.{Receive}
@@ -20,34 +21,45 @@ use Rattle.model.specs.Lists.{allOf, without, firstWhere}
 use Rattle.model.specs.Waiting.{accepts}
 
 -- ---- codes: "signed; every failure is below zero"
+-- "0 done"
 abbrev pub done : ℤ
 done = pos 0
 
+-- "1 running"
 abbrev pub running : ℤ
 running = pos 1
 
+-- "2 never begun"
 abbrev pub neverBegun : ℤ
 neverBegun = pos 2
 
--- receiver does not exist
+-- "-2 receiver does not exist"
 abbrev pub noReceiver : ℤ
 noReceiver = negℤ (pos 2)
 
+-- "-3 receive time over"
 abbrev pub receiveTimeOver : ℤ
 receiveTimeOver = negℤ (pos 3)
 
+-- "-4 send time over"
 abbrev pub sendTimeOver : ℤ
 sendTimeOver = negℤ (pos 4)
 
+-- "-5 receive cancelled"
 abbrev pub receiveCancelled : ℤ
 receiveCancelled = negℤ (pos 5)
 
+-- "-6 send cancelled"
 abbrev pub sendCancelled : ℤ
 sendCancelled = negℤ (pos 6)
 
 -- the codes in document 01's order
 abbrev pub codes : List ℤ
 codes = done ∷ running ∷ neverBegun ∷ noReceiver ∷ receiveTimeOver ∷ sendTimeOver ∷ receiveCancelled ∷ sendCancelled ∷ []
+
+-- "every failure is below zero"
+unfoldable pub isFailure : ℤ → Bool
+isFailure code = ltZ code (pos 0)
 
 -- two codes are the same
 abbrev pub sameCode : ℤ → ℤ → Bool
@@ -65,6 +77,7 @@ abbrev pub codeOnly : ℤ → Outcome
 codeOnly code = record { code = code; source = nobody; count = 0 }
 
 -- ---- phases
+-- the nine phases, and one for every other number
 pub data Phase : Type 0 where
   idle lock check copy release sleep look wake unlock unknown : Phase
 
@@ -90,9 +103,11 @@ phaseNumber unlock = 8
 phaseNumber unknown = 9
 
 -- ---- a new table
+-- "no flag"
 abbrev pub noFlags : Flags
 noFlags = record { ipc = false; send = false; receiving = false; poll = false; mark = false }
 
+-- "no operation"
 unfoldable pub noOperation : Operation
 noOperation = record { send = record { present = false; target = 0; count = 0; time = 0; words = replicate 8 0 }; receive = Absent }
 
@@ -110,6 +125,7 @@ newThread = record {
   waking = 0;
 }
 
+-- "In a new table every thread is" a new one
 unfoldable pub newTable : ℕ → Table
 newTable n = record { n = n; threads = replicate 32 newThread }
 
@@ -141,31 +157,39 @@ unfoldable pub editBelow : ℕ → (Thread → Thread) → Table → Table
 editBelow zero f t = t
 editBelow (suc k) f t = edit k f (editBelow k f t)
 
--- a thread with one field changed
+-- a thread with other flags
 abbrev pub withFlags : Flags → Thread → Thread
 withFlags v h = record { flags = v; phase = h .phase; op = h .op; left = h .left; queue = h .queue; owner = h .owner; outcome = h .outcome; copied = h .copied; waking = h .waking }
 
+-- in another phase
 abbrev pub entering : Phase → Thread → Thread
 entering p h = record { flags = h .flags; phase = phaseNumber p; op = h .op; left = h .left; queue = h .queue; owner = h .owner; outcome = h .outcome; copied = h .copied; waking = h .waking }
 
+-- with another operation
 abbrev pub withOp : Operation → Thread → Thread
 withOp v h = record { flags = h .flags; phase = h .phase; op = v; left = h .left; queue = h .queue; owner = h .owner; outcome = h .outcome; copied = h .copied; waking = h .waking }
 
+-- with another `left`
 abbrev pub withLeft : ℕ → Thread → Thread
 withLeft v h = record { flags = h .flags; phase = h .phase; op = h .op; left = v; queue = h .queue; owner = h .owner; outcome = h .outcome; copied = h .copied; waking = h .waking }
 
+-- with another queue
 abbrev pub withQueue : Queue → Thread → Thread
 withQueue v h = record { flags = h .flags; phase = h .phase; op = h .op; left = h .left; queue = v; owner = h .owner; outcome = h .outcome; copied = h .copied; waking = h .waking }
 
+-- with another owner of its lock
 abbrev pub withOwner : ℕ → Thread → Thread
 withOwner v h = record { flags = h .flags; phase = h .phase; op = h .op; left = h .left; queue = h .queue; owner = v; outcome = h .outcome; copied = h .copied; waking = h .waking }
 
+-- with another outcome
 abbrev pub withOutcome : Outcome → Thread → Thread
 withOutcome v h = record { flags = h .flags; phase = h .phase; op = h .op; left = h .left; queue = h .queue; owner = h .owner; outcome = v; copied = h .copied; waking = h .waking }
 
+-- with another number of words copied
 abbrev pub withCopied : ℕ → Thread → Thread
 withCopied v h = record { flags = h .flags; phase = h .phase; op = h .op; left = h .left; queue = h .queue; owner = h .owner; outcome = h .outcome; copied = v; waking = h .waking }
 
+-- with another sender being woken
 abbrev pub withWaking : ℕ → Thread → Thread
 withWaking v h = record { flags = h .flags; phase = h .phase; op = h .op; left = h .left; queue = h .queue; owner = h .owner; outcome = h .outcome; copied = h .copied; waking = v }
 
@@ -227,6 +251,7 @@ lockHeldIn wake h = h .waking
 lockHeldIn unlock h = h .waking
 lockHeldIn unknown h = nobody
 
+-- the same by the thread's own phase
 unfoldable pub lockHeld : Thread → ℕ
 lockHeld h = lockHeldIn (phaseOf (h .phase)) h
 

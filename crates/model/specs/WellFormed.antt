@@ -37,10 +37,11 @@ isCode (k ∷ ks) c = sameCode k c || isCode ks c
 unfoldable pub nobodyOrBelow : ℕ → ℕ → Bool
 nobodyOrBelow n x = eqb x nobody || ltb x n
 
--- the numbers of the parts that an operation has
+-- the numbers of a send part: target, words, time code
 unfoldable pub sendInRange : ℕ → SendPart → Bool
 sendInRange n part = implies (part .present) (allOf (ltb (part .target) n ∷ leb (part .count) wordLimit ∷ isTimeCode (part .time) ∷ []))
 
+-- the numbers of a receive part: time code, partner
 unfoldable pub receiveInRange : ℕ → Receive → Bool
 receiveInRange n Absent = true
 receiveInRange n (Open w) = isTimeCode (w .time)
@@ -136,6 +137,7 @@ chain t (suc k) r = ownerOf t (chain t k r)
 abbrev pub Each : Table → (ℕ → Thread → Bool) → Type 0
 Each t clause = (x : ℕ) → x < t .n → clause x (at t x) ≡ true
 
+-- a table is well-formed
 pub record WellFormed (t : Table) : Type 0 where
   pub size : sizeInRange (t .n) ≡ true
   pub numbers : Each t (λ x h. numbersInRange (t .n) h)
@@ -159,6 +161,7 @@ pub record WellFormed (t : Table) : Type 0 where
   pub copies : Each t (copiesToReady t)
 
 -- ---- as a test
+-- the test holds of each thread in use
 unfoldable pub each : Table → (ℕ → Thread → Bool) → Bool
 each t clause = allBelow (t .n) (λ x. clause x (at t x))
 
@@ -171,6 +174,7 @@ allUnder n (a ∷ q) = ltb a n && allUnder n q
 unfoldable pub queueTest : Table → ℕ → Bool
 queueTest t r = allOf (allUnder (t .n) (senders (at t r)) ∷ allBelow (t .n) (λ s. eqb (occurs s (senders (at t r))) (bit (sendsTo (at t s) r))) ∷ [])
 
+-- of one lock: its owner is the thread that holds it
 unfoldable pub ownerTest : Table → ℕ → Bool
 ownerTest t r = allBelow (t .n) (λ o. Bool·beq (eqb (at t r .owner) o) (eqb (lockHeld (at t o)) r))
 
@@ -200,5 +204,6 @@ clauses t =
     ∷ each t (copiesToReady t)
     ∷ []
 
+-- a table is well-formed
 unfoldable pub wellFormed : Table → Bool
 wellFormed t = allOf (clauses t)
