@@ -7,11 +7,9 @@ use Prim.Native.Nat.{ℕ, suc}
 use lib.ListN.{replicate}
 use lib.IntN.{pos}
 use Rattle.model.specs.declared.Receive.the-variants.{Absent}
-use Rattle.model.specs.declared.Operation.{Operation}
-use Rattle.model.specs.declared.Outcome.{Outcome}
-use Rattle.model.specs.declared.Thread.{Thread}
 use Rattle.model.specs.declared.Table.{Table}
-use Rattle.model.specs.Threads.{done, running, neverBegun, nobody, codeOnly, idle, lock, check, copy, release, sleep, look, wake, unknown, newTable, edit, withFlags, entering, withOp, withLeft, withQueue, withOwner, withOutcome, withCopied, withWaking, polled, marked, withoutReceive}
+use Rattle.model.specs.Shared.{done, running, neverBegun, nobody, codeOnly}
+use Rattle.model.specs.Threads.{idle, check, copy, release, sleep, look, wake, unknown, newTable, edit, withFlags, entering, withOp, withLeft, withQueue, withOwner, withOutcome, withCopied, withWaking, polled, marked, withoutReceive}
 use Rattle.model.specs.WellFormed.{clauses, wellFormed}
 use Rattle.model.specs.Calls.{beginTable}
 use Rattle.model.specs.Marked.{sendTo, receiveOnly, openFor, closedFor, flags}

@@ -9,9 +9,10 @@ use Rattle.model.specs.declared.Receive.the-variants.{Absent}
 use Rattle.model.specs.declared.Operation.{Operation}
 use Rattle.model.specs.declared.Thread.{Thread}
 use Rattle.model.specs.declared.Table.{Table}
-use Rattle.model.specs.Threads.{noReceiver, codeOnly, Phase, noOperation, newThread, newTable, edit, ended, departed}
+use Rattle.model.specs.Shared.{noReceiver, codeOnly, targetBeyond}
+use Rattle.model.specs.Threads.{Phase, noOperation, newThread, newTable, edit, ended, departed}
 use Rattle.model.specs.Step.{giveUp, finishCall, finishSend, endWait, ownAfter, received}
-use Rattle.model.specs.Calls.{begun, targetBeyond, beginTable, State}
+use Rattle.model.specs.Calls.{begun, beginTable, State}
 use Rattle.model.specs.Refusals.{unless, makeRefusal, outcomeRefusal}
 use Rattle.model.specs.Promise.{madeTable, outcomeWords}
 use Rattle.model.specs.Schedule.{decodeRefusal, decode}

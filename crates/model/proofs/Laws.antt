@@ -8,7 +8,7 @@ use native.Mathlib.Omega.{arith}
 use lib.ListN.{length, length-append}
 use lib.Dec.{eqb}
 use borrow.Author.Tests.{eqb-true, eqb-false, eq-eqb, ne-eqb}
-use Rattle.model.specs.Lists.{allOf, allBelow, occurs, without, upTo}
+use Rattle.model.specs.Lists.{implies, allOf, allBelow, occurs, without, upTo}
 
 -- ---- cases
 -- a test holds or fails, and each case has its equation
@@ -58,6 +58,18 @@ pub equal-alike-read : (a b c d : ℕ) → Bool·beq (eqb a b) (eqb c d) ≡ tru
 equal-alike-read a b c d h =
     let e : eqb a b ≡ eqb c d = alike-read (eqb a b) (eqb c d) h in
     (λ i. eqb-true c d (sym e ∙ eq-eqb a b i), λ i. eqb-true a b (e ∙ eq-eqb c d i))
+
+-- what a test implies holds where it does
+pub implies-read : (a b : Bool) → implies a b ≡ true → a ≡ true → b ≡ true
+unfolding implies
+implies-read true b e h = e
+implies-read false b e h = cc
+
+-- a test implies what holds where it does
+pub implies-made : (a b : Bool) → (a ≡ true → b ≡ true) → implies a b ≡ true
+unfolding implies
+implies-made true b f = f refl
+implies-made false b f = refl
 
 -- ---- a list of tests
 -- a pair, for a list of facts without brackets: a and b and tt

@@ -1,9 +1,6 @@
 -- A table that is made is the new table that traces start from.
 use mathlib.Core.Path.{_≡_, refl}
-use mathlib.Core.Bool.{Bool, true, false, not, cond, _&&_}
-use mathlib.Core.List.{[], _∷_}
 use Prim.Native.Nat.{ℕ, _≤_}
-use lib.Dec.{leb}
 use borrow.Author.Tests.{le-leb}
 use Rattle.model.specs.Threads.{newTable}
 use Rattle.model.specs.WellFormed.{sizeInRange}

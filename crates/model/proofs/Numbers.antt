@@ -1,10 +1,11 @@
 -- Facts of the numbers that document 01 fixes: phases and codes.
 use mathlib.Core.Path.{_≡_, refl}
-use mathlib.Core.Bool.{Bool, true, false}
-use mathlib.Core.List.{List, [], _∷_, map}
-use Prim.Native.Nat.{ℕ, _≤_}
+use mathlib.Core.Bool.{true, false}
+use mathlib.Core.List.{[], _∷_, map}
+use Prim.Native.Nat.{_≤_}
+use Rattle.model.specs.Shared.{codes, isFailure}
 use native.Mathlib.Omega.{arith}
-use Rattle.model.specs.Threads.{codes, isFailure, Phase, idle, lock, check, copy, release, sleep, look, wake, unlock, unknown, phaseOf, phaseNumber}
+use Rattle.model.specs.Threads.{Phase, idle, lock, check, copy, release, sleep, look, wake, unlock, unknown, phaseOf, phaseNumber}
 
 -- each phase is read back from its number
 pub phase-read : (p : Phase) → phaseNumber p ≤ 8 → phaseOf (phaseNumber p) ≡ p

@@ -1,6 +1,6 @@
 -- What `bondtrace` prints, worked out for document 01's own examples.
 use mathlib.Core.Path.{_≡_, refl}
-use mathlib.Core.List.{List, [], _∷_, _++_}
+use mathlib.Core.List.{List, [], _∷_}
 use Prim.Native.Nat.{ℕ}
 use lib.ListN.{take}
 use Rattle.model.specs.declared.Receive.the-variants.{Absent}

@@ -10,8 +10,9 @@ use borrow.Author.Tests.{ltb-true, ltb-false, lt-ltb, le-ltb, leb-true, eqb-true
 use Rattle.model.specs.declared.Thread.{Thread}
 use Rattle.model.specs.declared.Table.{Table}
 use Rattle.model.specs.Lists.{bit, occurs}
-use Rattle.model.specs.Threads.{nobody, at, senders, lockHeld}
-use Rattle.model.specs.WellFormed.{sizeInRange, sendsTo, chain, Each, WellFormed, each, allUnder, queueTest, ownerTest, chainTest, clauses, wellFormed}
+use Rattle.model.specs.Shared.{nobody}
+use Rattle.model.specs.Threads.{at, senders, lockHeld}
+use Rattle.model.specs.WellFormed.{sizeInRange, sendsTo, ownerOf, chain, Each, WellFormed, each, allUnder, queueTest, ownerTest, chainTest, clauses, wellFormed}
 use Rattle.model.proofs.Laws.{by, and-left, and-right, and-made, equal-alike-read, equal-alike-made, _and_, all-of-read, all-of-made, all-below-read, all-below-made, occurs-first}
 use Rattle.model.proofs.Chains.{chains-long}
 
@@ -66,12 +67,17 @@ module _ (t : Table) where
   )
 
   -- of the chain of owners from one thread, as far as n owners
-  chain-same : (r : ℕ) → ((k : ℕ) → k < t .n → chain t (suc k) r ≢ r) ↔ (chainTest t r ≡ true)
+  chain-same : (r : ℕ) → ((k : ℕ) → k < t .n → chain (ownerOf t) (suc k) r ≢ r) ↔ (chainTest t r ≡ true)
   unfolding chainTest
   chain-same r = (
     λ h. all-below-made (t .n) _ (λ k kn. rw (ne-eqb _ _ (h k kn)) refl),
     λ e k kn. eqb-false _ _ (not-true _ (all-below-read (t .n) _ e k kn)),
   )
+
+  -- only a thread of the table has a thread of the table for its owner
+  owned-in : t .n ≤ nobody → (r : ℕ) → ownerOf t r < t .n → r < t .n
+  unfolding ownerOf
+  owned-in few r h = by (ltb r (t .n)) (ltb-true r (t .n)) (λ e. absurd (let l : nobody < t .n = rw e at h in omega arith))
 
 -- ---- the whole table
 -- a well-formed table passes the test
@@ -112,7 +118,7 @@ well-formed-told t e =
       others = each-same t _ .1 others;
       queues = λ r rn. queue-same t r .1 (all-below-read (t .n) _ queues r rn);
       owners = λ r o rn. owner-same t r .1 (all-below-read (t .n) _ owners r rn) o;
-      chains = chains-long t (size-small (t .n) size) (λ r rn. chain-same t r .1 (all-below-read (t .n) _ chains r rn));
+      chains = chains-long (ownerOf t) (t .n) (owned-in t (size-small (t .n) size)) (λ r rn. chain-same t r .1 (all-below-read (t .n) _ chains r rn));
       sendAndMark = each-same t _ .1 sendAndMark;
       poll = each-same t _ .1 poll;
       receiving = each-same t _ .1 receiving;

@@ -1,17 +1,14 @@
 -- Document 01, "The whole order": the atomic machine (document 01's "plain machine"). It plays whole events and knows no lock, phase or step.
 use mathlib.Core.Path.{_≡_}
-use mathlib.Core.Bool.{Bool, true, false, not, cond, _&&_}
+use mathlib.Core.Bool.{Bool, true, false, not, cond}
 use mathlib.Core.List.{List, [], _∷_}
 use Prim.Native.Nat.{ℕ, _<_}
-use lib.IntN.{ℤ, pos, negℤ}
+use lib.IntN.{ℤ}
 use Rattle.model.specs.declared.Receive.{Receive}
 use Rattle.model.specs.declared.Operation.{Operation}
 use Rattle.model.specs.declared.Outcome.{Outcome}
 use Rattle.model.specs.Lists.{allOf, update}
-use Rattle.model.specs.Waiting.{ticks, fall, hasReceive, receiveTime, accepts, firstTime, message}
-use Rattle.model.specs.Threads.{done, running, neverBegun, noReceiver, receiveTimeOver, sendTimeOver, receiveCancelled, sendCancelled, codeOnly}
-use Rattle.model.specs.Calls.{targetBeyond}
-use Rattle.model.specs.Promise.{View}
+use Rattle.model.specs.Shared.{done, running, neverBegun, noReceiver, receiveTimeOver, sendTimeOver, receiveCancelled, sendCancelled, codeOnly, targetBeyond, View, ticks, fall, hasReceive, receiveTime, accepts, firstTime, message}
 
 -- "a running operation, sending or receiving, or none"
 pub data Run : Type 0 where
@@ -79,13 +76,14 @@ receiverAfter s nothing p = p
 receiverAfter s (sending o) p = ending (record { code = done; source = s; count = o .send .count }) (message (o .send)) p
 receiverAfter s (receiving r) p = p
 
--- "s without a receive part ends with 0; else it is receiving, mark kept, `left` from the receive code"
+-- "it is receiving, mark kept, `left` from the receive code"
+abbrev pub turning : Receive → AtomicThread → AtomicThread
+turning r p = record { run = receiving r; mark = p .mark; left = ticks (receiveTime r); outcome = p .outcome; words = p .words }
+
+-- "s without a receive part ends with 0; else it is receiving"
 unfoldable pub senderAfter : Run → AtomicThread → AtomicThread
 senderAfter nothing p = p
-senderAfter (sending o) p =
-    cond (hasReceive (o .receive))
-    (record { run = receiving (o .receive); mark = p .mark; left = ticks (receiveTime (o .receive)); outcome = p .outcome; words = p .words })
-    (ending (codeOnly done) [] p)
+senderAfter (sending o) p = cond (hasReceive (o .receive)) (turning (o .receive) p) (ending (codeOnly done) [] p)
 senderAfter (receiving r) p = p
 
 -- the machine of n threads after an event

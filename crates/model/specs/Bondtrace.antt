@@ -1,21 +1,20 @@
 -- Document 01, "Schedule bytes": what program `bondtrace` prints for an input, as bytes.
-use mathlib.Core.Bool.{Bool, true, false, cond}
+use mathlib.Core.Bool.{cond}
 use mathlib.Core.Option.{Option, none, some}
 use mathlib.Core.List.{List, [], _∷_, _++_, map}
 use Prim.Native.Nat.{ℕ, zero, suc, _+_, _*_, _/_, _%_}
 use Prim.Native.String.{String, len, charAt}
 use Prim.Native.Char.{code}
-use lib.ListN.{length, replicate}
+use lib.ListN.{replicate}
 use lib.Dec.{eqb, ltb}
 use lib.IntN.{ℤ, pos, negsuc}
-use Rattle.model.specs.declared.Outcome.{Outcome}
 use Rattle.model.specs.declared.Record.{Record}
-use Rattle.model.specs.Lists.{bit, upTo, concat}
+use Rattle.model.specs.Lists.{upTo, concat}
 use Rattle.model.specs.Threads.{newTable}
 use Rattle.model.specs.Calls.{Call, begin, step, cancel, tick, State}
 use Rattle.model.specs.Refusals.{unless, refusal, makeRefusal}
-use Rattle.model.specs.Promise.{state, next, View, view}
-use Rattle.model.specs.Schedule.{beginKind, stepKind, cancelKind, Fault, Reading, decodeAll}
+use Rattle.model.specs.Promise.{state, next, view}
+use Rattle.model.specs.Schedule.{beginKind, stepKind, cancelKind, Fault, decodeAll}
 
 -- ---- text
 -- a text's characters as bytes

@@ -1,15 +1,14 @@
 -- Document 01, "Calls": begin, cancel and tick where they are accepted, and every call as one type.
-use mathlib.Core.Bool.{Bool, true, false, cond, _&&_}
+use mathlib.Core.Bool.{true, false, cond}
 use mathlib.Core.List.{List}
 use Prim.Native.Nat.{ℕ}
-use lib.Dec.{leb}
 use Rattle.model.specs.declared.Flags.{Flags}
 use Rattle.model.specs.declared.Operation.{Operation}
 use Rattle.model.specs.declared.Thread.{Thread}
 use Rattle.model.specs.declared.Table.{Table}
 use Rattle.model.specs.Answers.{Reply, accepted, nothingToCancel}
-use Rattle.model.specs.Waiting.{ticks, fall, hasReceive, firstTime}
-use Rattle.model.specs.Threads.{running, noReceiver, codeOnly, Phase, lock, look, at, edit, editBelow, withFlags, entering, withOp, withLeft, withOutcome, marked, ended, joined, zeroed}
+use Rattle.model.specs.Shared.{running, noReceiver, codeOnly, targetBeyond, ticks, fall, hasReceive, firstTime}
+use Rattle.model.specs.Threads.{Phase, lock, look, at, edit, editBelow, withFlags, entering, withOp, withLeft, withOutcome, marked, ended, joined, zeroed}
 use Rattle.model.specs.Step.{decide, replyOf, act, storeAfter}
 
 -- ---- begin
@@ -20,10 +19,6 @@ begunFlags o = record { ipc = true; send = o .send .present; receiving = hasRece
 -- a thread that begins o in phase p: "`left` comes from the send code, else the receive code"; code 1, source 255, count 0
 unfoldable pub begun : Operation → Phase → Thread → Thread
 begun o p h = entering p (withFlags (begunFlags o) (withOp o (withLeft (ticks (firstTime o)) (withOutcome (codeOnly running) h))))
-
--- "a target of N or more"
-unfoldable pub targetBeyond : ℕ → Operation → Bool
-targetBeyond n o = o .send .present && leb n (o .send .target)
 
 -- "joins the end of the target's queue; phase lock"; "without a send part: phase look"; "a target of N or more ends the whole operation with -2, idle"
 unfoldable pub beginTable : ℕ → Operation → Table → Table

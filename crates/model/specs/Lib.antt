@@ -1,5 +1,5 @@
 pub mod Lists
-pub mod Waiting
+pub mod Shared
 pub mod Answers
 pub mod Threads
 pub mod WellFormed

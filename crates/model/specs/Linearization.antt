@@ -7,13 +7,12 @@ use mathlib.Core.List.{List, [], _∷_, map, reverse}
 use Prim.Native.Nat.{ℕ, _*_, _≤_, _<_}
 use lib.ListN.{length}
 use lib.Dec.{eqb}
-use lib.IntN.{ℤ}
 use Rattle.model.specs.declared.Operation.{Operation}
 use Rattle.model.specs.declared.Answer.{Answer}
 use Rattle.model.specs.Answers.{Reply, accepted, marked, nothingToCancel, Said, refused, replied, said}
 use Rattle.model.specs.Lists.{bit, occurs}
-use Rattle.model.specs.Waiting.{hasReceive}
-use Rattle.model.specs.Threads.{done, running, receiveTimeOver, receiveCancelled, sameCode, newTable}
+use Rattle.model.specs.Shared.{done, running, receiveTimeOver, receiveCancelled, sameCode, hasReceive}
+use Rattle.model.specs.Threads.{newTable}
 use Rattle.model.specs.Calls.{Call, begin, step, cancel, tick, State}
 use Rattle.model.specs.Promise.{Promise, state, view}
 use Rattle.model.specs.Atomic.{AtomicThread, Machine, firstMachine, Event, begins, cancels, ticksOn, rendezvous, aborts, play, AtomicReply, reply, shows, isReceiving, Can}

@@ -1,12 +1,11 @@
 -- Small functions on lists and tests that the definitions share. None is about messages.
 use mathlib.Core.Bool.{Bool, true, false, not, cond, _&&_, _||_}
-use mathlib.Core.Option.{Option, none, some}
 use mathlib.Core.List.{List, [], _∷_, _++_}
 use Prim.Native.Nat.{ℕ, zero, suc, _+_}
 use lib.Dec.{eqb}
 
 -- b holds wherever a does
-abbrev pub implies : Bool → Bool → Bool
+unfoldable pub implies : Bool → Bool → Bool
 implies a b = not a || b
 
 -- every test of the list holds
@@ -34,10 +33,10 @@ unfoldable pub without : ℕ → List ℕ → List ℕ
 without s [] = []
 without s (a ∷ q) = cond (eqb a s) q (a ∷ without s q)
 
--- the first number of a list at which f holds
-unfoldable pub firstWhere : (ℕ → Bool) → List ℕ → Option ℕ
-firstWhere f [] = none
-firstWhere f (a ∷ q) = let later = firstWhere f q in cond (f a) (some a) later
+-- the place of the first number of a list at which f holds; the list's length where there is none
+unfoldable pub placeWhere : (ℕ → Bool) → List ℕ → ℕ
+placeWhere f [] = 0
+placeWhere f (a ∷ q) = cond (f a) 0 (suc (placeWhere f q))
 
 module _ {ℓ} {A : Type ℓ} where
   -- f at each number below n, in order

@@ -1,6 +1,6 @@
 -- Document 01, "Marked meetings": P1 to P12 as rows of a single table. `proofs/Marked` works each row out from the step rules.
-use mathlib.Core.Bool.{Bool, true, false}
-use mathlib.Core.Option.{Option, none, some}
+use mathlib.Core.Bool.{true, false}
+use mathlib.Core.Option.{none, some}
 use mathlib.Core.List.{List, [], _∷_, _++_}
 use Prim.Native.Nat.{ℕ, _-_, _*_}
 use lib.ListN.{length, replicate}
@@ -13,7 +13,8 @@ use Rattle.model.specs.declared.Outcome.{Outcome}
 use Rattle.model.specs.declared.Thread.{Thread}
 use Rattle.model.specs.Answers.{Reply, accepted, marked, moved, held, asleep, Said, refused, replied}
 use Rattle.model.specs.Lists.{upTo}
-use Rattle.model.specs.Threads.{done, running, neverBegun, noReceiver, receiveTimeOver, sendTimeOver, receiveCancelled, sendCancelled, nobody, codeOnly, Phase, idle, lock, check, release, look, phaseOf, newTable, noFlags, at, senders}
+use Rattle.model.specs.Shared.{done, running, neverBegun, noReceiver, receiveTimeOver, sendTimeOver, receiveCancelled, sendCancelled, nobody, codeOnly}
+use Rattle.model.specs.Threads.{Phase, idle, lock, check, release, look, phaseOf, newTable, noFlags, at, senders}
 use Rattle.model.specs.Calls.{Call, begin, step, cancel, tick, State}
 use Rattle.model.specs.Promise.{state, answer, next}
 use Rattle.model.specs.Atomic.{begins, cancels, ticksOn, rendezvous, aborts}

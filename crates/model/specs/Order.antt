@@ -1,5 +1,5 @@
 -- The order of a trace as a function: a rendezvous stands at the step that finishes a copy, -6 and -4 at check, -5 and -3 at look.
-use mathlib.Core.Option.{Option, none, some}
+use mathlib.Core.Option.{none, some}
 use mathlib.Core.List.{List, [], _∷_}
 use Prim.Native.Nat.{ℕ}
 use Rattle.model.specs.declared.Thread.{Thread}
@@ -8,7 +8,7 @@ use Rattle.model.specs.Step.{Action, stay, takeLock, giveUp, startCopy, 
 use Rattle.model.specs.Calls.{Call, begin, step, cancel, tick, State}
 use Rattle.model.specs.Refusals.{unless, refusal}
 use Rattle.model.specs.Promise.{next}
-use Rattle.model.specs.Atomic.{Event, begins, cancels, ticksOn, rendezvous, aborts}
+use Rattle.model.specs.Atomic.{begins, cancels, ticksOn, rendezvous, aborts}
 use Rattle.model.specs.Linearization.{Entry}
 
 -- the event of an action of thread x, which was h

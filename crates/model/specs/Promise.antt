@@ -9,6 +9,7 @@ use Rattle.model.specs.declared.Answer.{Answer}
 use Rattle.model.specs.declared.OutcomeAnswer.{OutcomeAnswer}
 use Rattle.model.specs.Lists.{upTo}
 use Rattle.model.specs.Answers.{accepted, Said, refused, replied, said, SaidOutcome, shown, saidOutcome}
+use Rattle.model.specs.Shared.{View}
 use Rattle.model.specs.Threads.{newTable, at, wordsAt}
 use Rattle.model.specs.Calls.{Call, State, acceptedReply, acceptedState}
 use Rattle.model.specs.Refusals.{unless, refusal, makeRefusal, outcomeRefusal, reportRefusal}
@@ -46,11 +47,6 @@ pub record MakePromise (n : ℕ) (a : Answer) (made : Table) : Type 0 where
   pub makes : made ≡ madeTable n
 
 -- ---- outcome
--- what a user sees of a thread: its outcome and the first `count` of its eight words
-pub record View : Type 0 where
-  pub outcome : Outcome
-  pub words : List ℕ
-
 -- the view of thread x
 unfoldable pub view : State → ℕ → View
 view s x = record { outcome = at (s .table) x .outcome; words = take (at (s .table) x .outcome .count) (wordsAt (s .store) x) }

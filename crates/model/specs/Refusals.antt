@@ -1,15 +1,14 @@
 -- Document 01, "What a refused call returns": the rows of its table, and for each call those that concern it, in the order of checking.
-use mathlib.Core.Bool.{Bool, true, false, not, cond, _&&_, _||_}
+use mathlib.Core.Bool.{Bool, false, not, cond, _&&_, _||_}
 use mathlib.Core.List.{List, [], _∷_}
 use Prim.Native.Nat.{ℕ, zero, suc, _*_}
 use lib.ListN.{length}
 use lib.Dec.{eqb, leb, ltb}
-use Rattle.model.specs.declared.Wait.{Wait}
 use Rattle.model.specs.declared.Receive.{Receive}
 use Rattle.model.specs.declared.Receive.the-variants.{Absent, Open, Closed}
 use Rattle.model.specs.declared.Operation.{Operation}
 use Rattle.model.specs.declared.Table.{Table}
-use Rattle.model.specs.Waiting.{wordLimit, isTimeCode, hasReceive, receiveTime, closedOn}
+use Rattle.model.specs.Shared.{wordLimit, isTimeCode, hasReceive, receiveTime, closedOn}
 use Rattle.model.specs.Threads.{idle, at, lockFree}
 use Rattle.model.specs.WellFormed.{sizeInRange, inPhase, wellFormed}
 use Rattle.model.specs.Calls.{Call, begin, step, cancel, tick, State}

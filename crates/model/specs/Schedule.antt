@@ -6,7 +6,6 @@ use mathlib.Core.List.{List, [], _∷_, _++_, map}
 use Prim.Native.Nat.{ℕ, zero, suc, _+_, _*_, _/_, _%_}
 use lib.ListN.{length, getD, take, drop}
 use lib.Dec.{eqb, leb, ltb}
-use Rattle.model.specs.declared.SendPart.{SendPart}
 use Rattle.model.specs.declared.Wait.{Wait}
 use Rattle.model.specs.declared.Receive.{Receive}
 use Rattle.model.specs.declared.Receive.the-variants.{Absent, Open, Closed}
@@ -14,7 +13,7 @@ use Rattle.model.specs.declared.Operation.{Operation}
 use Rattle.model.specs.declared.Record.{Record}
 use Rattle.model.specs.declared.Answer.{Answer}
 use Rattle.model.specs.Lists.{implies, allOf, allBelow, bit, upTo, concat}
-use Rattle.model.specs.Waiting.{hasReceive, receiveTime}
+use Rattle.model.specs.Shared.{hasReceive, receiveTime}
 use Rattle.model.specs.Answers.{accepted, Said, refused, replied, said}
 use Rattle.model.specs.Threads.{noOperation}
 use Rattle.model.specs.Refusals.{Row, firstRefusal, unless}

@@ -1,5 +1,5 @@
 -- Document 01, "Calls", step: by its phase a step settles on an action; an action changes the thread, one other thread and the store.
-use mathlib.Core.Bool.{Bool, true, false, not, cond, _||_}
+use mathlib.Core.Bool.{true, false, not, cond, _||_}
 use mathlib.Core.Option.{Option, none, some, Option·getD}
 use mathlib.Core.List.{List}
 use Prim.Native.Nat.{ℕ, _+_, _*_}
@@ -9,22 +9,31 @@ use lib.IntN.{ℤ}
 use Rattle.model.specs.declared.Thread.{Thread}
 use Rattle.model.specs.declared.Table.{Table}
 use Rattle.model.specs.Answers.{Reply, moved, held, wants, asleep}
-use Rattle.model.specs.Waiting.{ticks, hasReceive, receiveTime}
-use Rattle.model.specs.Threads.{done, receiveTimeOver, sendTimeOver, receiveCancelled, sendCancelled, nobody, codeOnly, Phase, idle, lock, check, copy, release, sleep, look, wake, unlock, unknown, phaseOf, at, edit, entering, withLeft, withOwner, withCopied, withWaking, polled, sent, ended, withoutReceive, departed, lockFree, findSender, ready}
+use Rattle.model.specs.Shared.{done, receiveTimeOver, sendTimeOver, receiveCancelled, sendCancelled, nobody, codeOnly, ticks, hasReceive, receiveTime}
+use Rattle.model.specs.Threads.{Phase, idle, lock, check, copy, release, sleep, look, wake, unlock, unknown, phaseOf, at, put, entering, withLeft, withOwner, withCopied, withWaking, polled, sent, ended, withoutReceive, departed, lockFree, findSender, ready}
 
--- what a step of a thread does
+-- what a step does, once its tests are passed
 pub data Action : Type 0 where
+  -- nothing, with this reply
   stay : Reply → Action
+  -- lock: take the target's lock
   takeLock : Action
+  -- check: give up with this code, start to copy, or go to release
   giveUp : ℤ → Action
   startCopy toRelease : Action
+  -- copy: one word, or the end of the send part of an operation with a receive part or without
   copyWord finishCall finishSend : Action
+  -- release: free the target's lock and go to this phase
   freeTarget : Phase → Action
+  -- sleep: go to lock
   retry : Action
+  -- look: go idle, end with this code, or take the lock of this sender
   toIdle : Action
   endWait : ℤ → Action
   takeSender : ℕ → Action
+  -- wake: clear the sender's `poll`
   clearPoll : Action
+  -- unlock: free the sender's lock
   freeSender : Action
 
 -- the one other thread that a step reads or changes: the target, the sender that look finds, or the sender being woken
@@ -143,7 +152,7 @@ otherAfter freeSender x h r = withOwner nobody r
 
 -- the table after thread x's action
 unfoldable pub act : Action → ℕ → Table → Table
-act a x t = let h = at t x in edit x (ownAfter a) (edit (other h) (otherAfter a x h) t)
+act a x t = let h = at t x in put x (ownAfter a h) (put (other h) (otherAfter a x h (at t (other h))) t)
 
 -- copying sets the next word of the target's part of the store
 unfoldable pub wordCopied : Thread → List ℕ → List ℕ

@@ -1,80 +1,21 @@
--- Document 01, "The table": codes, phases, a new table, reading and changing a thread, queues, ready, and the word store.
-use mathlib.Core.Bool.{Bool, true, false, not, cond}
-use mathlib.Core.Option.{Option, none, some}
+-- Document 01, "The table": phases, a new table, reading and changing a thread, queues, ready, and the word store.
+use mathlib.Core.Bool.{Bool, true, false, not}
+use mathlib.Core.Option.{Option}
 use mathlib.Core.List.{List, [], _∷_, _++_}
 use Prim.Native.Nat.{ℕ, zero, suc, _+_, _-_, _*_}
-use lib.ListN.{getD, set, take, drop, replicate}
+use lib.ListN.{getD, getElem?, set, take, drop, replicate}
 use lib.Seq.{sets}
 use lib.Dec.{eqb}
-use lib.IntN.{ℤ, pos, negsuc, negℤ}
-use lib.Signed.{ltZ}
+use lib.IntN.{pos}
 use Rattle.model.specs.declared.Flags.{Flags}
-use Rattle.model.specs.declared.SendPart.{SendPart}
-use Rattle.model.specs.declared.Receive.{Receive}
-use Rattle.model.specs.declared.Receive.the-variants.{Absent, Open, Closed}
+use Rattle.model.specs.declared.Receive.the-variants.{Absent}
 use Rattle.model.specs.declared.Operation.{Operation}
 use Rattle.model.specs.declared.Queue.{Queue}
 use Rattle.model.specs.declared.Outcome.{Outcome}
 use Rattle.model.specs.declared.Thread.{Thread}
 use Rattle.model.specs.declared.Table.{Table}
-use Rattle.model.specs.Lists.{allOf, without, firstWhere}
-use Rattle.model.specs.Waiting.{accepts}
-
--- ---- codes: "signed; every failure is below zero"
--- "0 done"
-abbrev pub done : ℤ
-done = pos 0
-
--- "1 running"
-abbrev pub running : ℤ
-running = pos 1
-
--- "2 never begun"
-abbrev pub neverBegun : ℤ
-neverBegun = pos 2
-
--- "-2 receiver does not exist"
-abbrev pub noReceiver : ℤ
-noReceiver = negℤ (pos 2)
-
--- "-3 receive time over"
-abbrev pub receiveTimeOver : ℤ
-receiveTimeOver = negℤ (pos 3)
-
--- "-4 send time over"
-abbrev pub sendTimeOver : ℤ
-sendTimeOver = negℤ (pos 4)
-
--- "-5 receive cancelled"
-abbrev pub receiveCancelled : ℤ
-receiveCancelled = negℤ (pos 5)
-
--- "-6 send cancelled"
-abbrev pub sendCancelled : ℤ
-sendCancelled = negℤ (pos 6)
-
--- the codes in document 01's order
-abbrev pub codes : List ℤ
-codes = done ∷ running ∷ neverBegun ∷ noReceiver ∷ receiveTimeOver ∷ sendTimeOver ∷ receiveCancelled ∷ sendCancelled ∷ []
-
--- "every failure is below zero"
-unfoldable pub isFailure : ℤ → Bool
-isFailure code = ltZ code (pos 0)
-
--- two codes are the same
-abbrev pub sameCode : ℤ → ℤ → Bool
-sameCode (pos m) (pos n) = eqb m n
-sameCode (pos m) (negsuc n) = false
-sameCode (negsuc m) (pos n) = false
-sameCode (negsuc m) (negsuc n) = eqb m n
-
--- "Source 255 means none"; a lock's owner 255 is none too
-abbrev pub nobody : ℕ
-nobody = 255
-
--- an outcome that is not a completed receive: its code, "source 255 and count 0"
-abbrev pub codeOnly : ℤ → Outcome
-codeOnly code = record { code = code; source = nobody; count = 0 }
+use Rattle.model.specs.Lists.{allOf, without, placeWhere}
+use Rattle.model.specs.Shared.{neverBegun, nobody, codeOnly, accepts}
 
 -- ---- phases
 -- the nine phases, and one for every other number
@@ -148,9 +89,13 @@ zeroThread = record {
 unfoldable pub at : Table → ℕ → Thread
 at t x = getD (t .threads) x zeroThread
 
+-- the table with h for its thread x
+unfoldable pub put : ℕ → Thread → Table → Table
+put x h t = record { n = t .n; threads = set (t .threads) x h }
+
 -- the table with f done to thread x
 unfoldable pub edit : ℕ → (Thread → Thread) → Table → Table
-edit x f t = record { n = t .n; threads = set (t .threads) x (f (at t x)) }
+edit x f t = put x (f (at t x)) t
 
 -- the table with f done to each thread below k
 unfoldable pub editBelow : ℕ → (Thread → Thread) → Table → Table
@@ -230,30 +175,34 @@ departed s h = withQueue (record { items = without s (senders h) ++ drop (h .que
 unfoldable pub lockFree : Thread → Bool
 lockFree h = eqb (h .owner) nobody
 
+-- the place in the queue where the search stops: at the first acceptable sender, or past the last
+unfoldable pub searchPlace : Thread → ℕ
+searchPlace h = placeWhere (accepts (h .op .receive)) (senders h)
+
 -- "the first acceptable sender in the queue"
 unfoldable pub findSender : Thread → Option ℕ
-findSender h = firstWhere (accepts (h .op .receive)) (senders h)
+findSender h = getElem? (senders h) (searchPlace h)
 
 -- document 01's "ready" for s: "`ipc` and `receiving` set, `send` and `mark` clear, open or closed on" s
 unfoldable pub ready : Thread → ℕ → Bool
 ready h s = allOf (h .flags .ipc ∷ h .flags .receiving ∷ not (h .flags .send) ∷ not (h .flags .mark) ∷ accepts (h .op .receive) s ∷ [])
 
--- whose lock a thread holds: "check, copy and release hold the target's lock; wake and unlock that of the sender being woken; a thread holds no other"
-abbrev pub lockHeldIn : Phase → Thread → ℕ
-lockHeldIn idle h = nobody
-lockHeldIn lock h = nobody
-lockHeldIn check h = h .op .send .target
-lockHeldIn copy h = h .op .send .target
-lockHeldIn release h = h .op .send .target
-lockHeldIn sleep h = nobody
-lockHeldIn look h = nobody
-lockHeldIn wake h = h .waking
-lockHeldIn unlock h = h .waking
-lockHeldIn unknown h = nobody
+-- whose lock a thread holds in a phase: "check, copy and release hold the target's lock; wake and unlock that of the sender being woken; a thread holds no other"
+abbrev pub lockHeldIn : Phase → ℕ → ℕ → ℕ
+lockHeldIn idle target waking = nobody
+lockHeldIn lock target waking = nobody
+lockHeldIn check target waking = target
+lockHeldIn copy target waking = target
+lockHeldIn release target waking = target
+lockHeldIn sleep target waking = nobody
+lockHeldIn look target waking = nobody
+lockHeldIn wake target waking = waking
+lockHeldIn unlock target waking = waking
+lockHeldIn unknown target waking = nobody
 
 -- the same by the thread's own phase
 unfoldable pub lockHeld : Thread → ℕ
-lockHeld h = lockHeldIn (phaseOf (h .phase)) h
+lockHeld h = lockHeldIn (phaseOf (h .phase)) (h .op .send .target) (h .waking)
 
 -- ---- the word store
 -- "the eight words of thread t start at place 8×t"

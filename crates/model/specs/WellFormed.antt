@@ -1,22 +1,21 @@
 -- Document 01, "The table": when a table is well-formed (document 01's "sound"), as a list of facts and as a test that computes.
--- That the arrays have their 32 and 8 places is a fact of the types and stands in neither.
+-- That the arrays have their places is a fact of the types and stands apart, in `Shaped`.
 use mathlib.Core.Path.{_≡_}
 use mathlib.Core.Logic.{_↔_, _≢_}
 use mathlib.Core.Bool.{Bool, true, false, not, cond, _&&_, _||_, Bool·beq}
 use mathlib.Core.List.{List, [], _∷_}
 use Prim.Native.Nat.{ℕ, zero, suc, _<_}
+use lib.ListN.{length}
 use lib.Dec.{eqb, leb, ltb}
-use lib.IntN.{ℤ, pos, negsuc}
+use lib.IntN.{ℤ}
 use Rattle.model.specs.declared.SendPart.{SendPart}
-use Rattle.model.specs.declared.Wait.{Wait}
 use Rattle.model.specs.declared.Receive.{Receive}
 use Rattle.model.specs.declared.Receive.the-variants.{Absent, Open, Closed}
-use Rattle.model.specs.declared.Operation.{Operation}
 use Rattle.model.specs.declared.Thread.{Thread}
 use Rattle.model.specs.declared.Table.{Table}
 use Rattle.model.specs.Lists.{implies, allOf, allBelow, bit, occurs}
-use Rattle.model.specs.Waiting.{wordLimit, isTimeCode, isLeft, hasReceive, closedOn}
-use Rattle.model.specs.Threads.{done, running, codes, sameCode, nobody, Phase, idle, lock, check, copy, release, sleep, look, wake, unlock, phaseNumber, at, senders, lockHeld, ready}
+use Rattle.model.specs.Shared.{done, running, codes, sameCode, nobody, wordLimit, isTimeCode, isLeft, hasReceive, closedOn}
+use Rattle.model.specs.Threads.{Phase, idle, lock, check, copy, release, sleep, look, wake, unlock, phaseNumber, at, senders, lockHeld, ready}
 
 -- ---- the clauses of one thread, each a test of thread x, which is h, in a table of n threads
 -- "N is 1 to 32"
@@ -54,7 +53,8 @@ numbersInRange n h = allOf (
     leb (h .phase) 8
     ∷ implies (h .flags .ipc) (sendInRange n (h .op .send))
     ∷ implies (h .flags .ipc) (receiveInRange n (h .op .receive))
-    ∷ implies (h .flags .send || inPhase (release ∷ []) h) (h .op .send .present)
+    ∷ implies (h .flags .send) (h .op .send .present)
+    ∷ implies (inPhase (release ∷ []) h) (h .op .send .present)
     ∷ implies (h .flags .ipc) (isLeft (h .left))
     ∷ leb (h .queue .len) 32
     ∷ nobodyOrBelow n (h .owner)
@@ -77,7 +77,8 @@ bareUnlessDone h = sameCode done (h .outcome .code) || eqb (h .outcome .source) 
 -- "no thread is its own target or partner", where these are in use
 unfoldable pub notWithItself : ℕ → Thread → Bool
 notWithItself x h = allOf (
-    implies ((h .flags .ipc || inPhase (release ∷ []) h) && h .op .send .present) (not (eqb (h .op .send .target) x))
+    implies (h .flags .ipc && h .op .send .present) (not (eqb (h .op .send .target) x))
+    ∷ implies (inPhase (release ∷ []) h) (not (eqb (h .op .send .target) x))
     ∷ implies (h .flags .ipc) (not (closedOn (h .op .receive) x))
     ∷ []
     )
@@ -127,10 +128,16 @@ sendsTo h r = h .flags .send && eqb (h .op .send .target) r
 unfoldable pub ownerOf : Table → ℕ → ℕ
 ownerOf t r = cond (ltb r (t .n)) (at t r .owner) nobody
 
--- the owner of the owner of .. r's lock, k times over
-unfoldable pub chain : Table → ℕ → ℕ → ℕ
-chain t zero r = r
-chain t (suc k) r = ownerOf t (chain t k r)
+-- the owner of the owner of .. r, k times over
+unfoldable pub chain : (ℕ → ℕ) → ℕ → ℕ → ℕ
+chain owner zero r = r
+chain owner (suc k) r = owner (chain owner k r)
+
+-- ---- a fact of the types
+-- the arrays of threads and of queue places have their 32 places, as every value of the types has
+pub record Shaped (t : Table) : Type 0 where
+  pub threads : length (t .threads) ≡ 32
+  pub queues : (x : ℕ) → x < t .n → length (at t x .queue .items) ≡ 32
 
 -- ---- as facts, in the order of document 01's list
 -- the test holds of each thread in use
@@ -149,7 +156,7 @@ pub record WellFormed (t : Table) : Type 0 where
   -- "a lock's owner is exactly the thread whose phase holds it"
   pub owners : (r o : ℕ) → r < t .n → o < t .n → (at t r .owner ≡ o) ↔ (lockHeld (at t o) ≡ r)
   -- "no chain of lock owners comes back to its start"
-  pub chains : (r : ℕ) → r < t .n → (k : ℕ) → chain t (suc k) r ≢ r
+  pub chains : (r : ℕ) → r < t .n → (k : ℕ) → chain (ownerOf t) (suc k) r ≢ r
   pub sendAndMark : Each t (λ x h. sendAndMarkWithIpc h)
   pub poll : Each t (λ x h. pollWithSend h)
   pub receiving : Each t (λ x h. receivingWithPart h)
@@ -180,7 +187,7 @@ ownerTest t r = allBelow (t .n) (λ o. Bool·beq (eqb (at t r .owner) o) (eqb (l
 
 -- a chain that comes back does so within n owners
 unfoldable pub chainTest : Table → ℕ → Bool
-chainTest t r = allBelow (t .n) (λ k. not (eqb (chain t (suc k) r) r))
+chainTest t r = allBelow (t .n) (λ k. not (eqb (chain (ownerOf t) (suc k) r) r))
 
 -- a test for each clause, in the order of document 01's list
 unfoldable pub clauses : Table → List Bool
