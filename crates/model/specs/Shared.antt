@@ -87,13 +87,13 @@ tickCounts = 0 ∷ 1 ∷ 2 ∷ 5 ∷ 10 ∷ 20 ∷ 50 ∷ 100 ∷ 200 ∷ 500 �
 unfoldable pub isTimeCode : ℕ → Bool
 isTimeCode code = leb code 15
 
--- a number of ticks that `left` can hold while an operation runs
-unfoldable pub isLeft : ℕ → Bool
-isLeft left = leb left 20000 || eqb left never
-
 -- the ticks that a time code stands for
 unfoldable pub ticks : ℕ → ℕ
 ticks code = getD tickCounts code 0
+
+-- a number of ticks that `left` can hold while an operation runs
+unfoldable pub isLeft : ℕ → Bool
+isLeft left = leb left (ticks 14) || eqb left never
 
 -- a tick "lowers `left` by one, unless 0 or never"
 unfoldable pub fall : ℕ → ℕ
