@@ -7,7 +7,7 @@ use Rattle.model.specs.declared.OutcomeAnswer.the-variants.{Refused as N
 use Rattle.model.specs.Answers.{accepted, marked, nothingToCancel, moved, idle, held, wants, asleep, Said, refused, replied, said, SaidOutcome, shown, saidOutcome}
 
 -- the answer that stands for what was said
-abbrev answering : Said → Answer
+abbrev pub answering : Said → Answer
 answering (refused number) = Refused number
 answering (replied accepted) = Accepted
 answering (replied marked) = Marked
@@ -28,6 +28,18 @@ answering-said Idle = refl
 answering-said Held = refl
 answering-said Wants = refl
 answering-said Asleep = refl
+
+-- and it says just that
+pub said-answering : (s : Said) → said (answering s) ≡ s
+said-answering (refused number) = refl
+said-answering (replied accepted) = refl
+said-answering (replied marked) = refl
+said-answering (replied nothingToCancel) = refl
+said-answering (replied moved) = refl
+said-answering (replied idle) = refl
+said-answering (replied held) = refl
+said-answering (replied wants) = refl
+said-answering (replied asleep) = refl
 
 -- two answers that say the same are the same
 pub said-settles : (a b : Answer) → said a ≡ said b → a ≡ b

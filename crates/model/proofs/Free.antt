@@ -11,7 +11,7 @@ use Rattle.model.specs.declared.Thread.{Thread}
 use Rattle.model.specs.declared.Table.{Table}
 use Rattle.model.specs.Shared.{noReceiver, codeOnly, targetBeyond}
 use Rattle.model.specs.Threads.{Phase, noOperation, newThread, newTable, edit, ended, departed}
-use Rattle.model.specs.Step.{giveUp, finishCall, finishSend, endWait, ownAfter, received}
+use Rattle.model.specs.Step.{abortSend, finishCall, finishSend, abortReceive, ownAfter, received}
 use Rattle.model.specs.Calls.{begun, beginTable, State}
 use Rattle.model.specs.Refusals.{unless, makeRefusal, outcomeRefusal}
 use Rattle.model.specs.Promise.{madeTable, outcomeWords}
@@ -48,7 +48,7 @@ unfolding ownAfter
 after-send h = record { operation = refl; left = refl; copied = refl; waking = refl }
 
 -- 5. after -5 and -3: the same
-pub after-wait : (c : ℤ) (h : Thread) → Keeps h (ownAfter (endWait c) h)
+pub after-wait : (c : ℤ) (h : Thread) → Keeps h (ownAfter (abortReceive c) h)
 unfolding ownAfter
 after-wait c h = record { operation = refl; left = refl; copied = refl; waking = refl }
 
@@ -58,7 +58,7 @@ unfolding received departed
 after-receive x h r = record { operation = refl; left = refl; copied = refl; waking = refl }
 
 -- 7. after -6 and -4: the send part and `left` stay as they were; that the receive part is dropped is document 01's
-pub after-abort : (c : ℤ) (h : Thread) → (ownAfter (giveUp c) h .op .send ≡ h .op .send) × (ownAfter (giveUp c) h .op .receive ≡ Absent) × (ownAfter (giveUp c) h .left ≡ h .left)
+pub after-abort : (c : ℤ) (h : Thread) → (ownAfter (abortSend c) h .op .send ≡ h .op .send) × (ownAfter (abortSend c) h .op .receive ≡ Absent) × (ownAfter (abortSend c) h .left ≡ h .left)
 unfolding ownAfter
 after-abort c h = (refl, refl, refl)
 
@@ -83,3 +83,6 @@ no-words s x g e = rw e refl
 pub no-record : (first : Bool) (bytes : List ℕ) (g : ℕ) → decodeRefusal first bytes ≡ suc g → decode first bytes ≡ record { kind = 0; thread = 0; op = noOperation }
 unfolding decode unless
 no-record first bytes g e = rw e refl
+
+-- 13. threads from N on: what they were when the table was made; a call edits its own thread and threads that a well-formed table names,
+-- all below N

@@ -1,6 +1,7 @@
 pub mod Laws
 pub mod Numbers
 pub mod Answers
+pub mod Traces
 pub mod Chains
 pub mod Tested
 pub mod Computing

@@ -1,4 +1,4 @@
--- Document 01, "The whole order": the atomic machine (document 01's "plain machine"). It plays whole events and knows no lock, phase or step.
+-- Document 01, "The whole order": the atomic machine (document 01's "plain machine"). It plays atomic events (document 01's "whole events") and knows no lock, phase or step.
 use mathlib.Core.Path.{_≡_}
 use mathlib.Core.Bool.{Bool, true, false, not, cond}
 use mathlib.Core.List.{List, [], _∷_}
@@ -32,7 +32,7 @@ Machine = ℕ → AtomicThread
 abbrev pub firstMachine : Machine
 firstMachine x = record { run = nothing; mark = false; left = 0; outcome = codeOnly neverBegun; words = [] }
 
--- the whole events
+-- the atomic events
 pub data Event : Type 0 where
   begins : ℕ → Operation → Event
   cancels : ℕ → Event

@@ -1,4 +1,4 @@
--- Demand 3: for every trace from a new table there is one order of whole events that no user can tell from it.
+-- Demand 3: for every trace from a new table there is one order of atomic events that no user can tell from it.
 use mathlib.Core.Path.{_≡_}
 use mathlib.Core.Logic.{_≢_, _⊎_}
 use mathlib.Core.Bool.{Bool, true, false, cond, _&&_, _||_}
@@ -29,7 +29,7 @@ abbrev pub Trace : State → List Observed → Type 0
 Trace s [] = Unit {0}
 Trace s (c ∷ cs) = Promise (c .call) s (c .answer) (c .after) × Trace (c .after) cs
 
--- ---- an order: for each call of the trace one whole event, or none
+-- ---- an order (document 01's "whole order"): for each call of the trace one atomic event, or none
 abbrev pub Entry : Type 0
 Entry = Option Event
 

@@ -4,7 +4,7 @@ use mathlib.Core.List.{List, [], _∷_}
 use Prim.Native.Nat.{ℕ}
 use Rattle.model.specs.declared.Thread.{Thread}
 use Rattle.model.specs.Threads.{at}
-use Rattle.model.specs.Step.{Action, stay, takeLock, giveUp, startCopy, toRelease, copyWord, finishCall, finishSend, freeTarget, retry, toIdle, endWait, takeSender, clearPoll, freeSender, decide}
+use Rattle.model.specs.Step.{Action, stay, takeLock, abortSend, startCopy, toRelease, copyWord, finishCall, finishSend, freeTarget, retry, toIdle, abortReceive, takeSender, clearPoll, freeSender, decide}
 use Rattle.model.specs.Calls.{Call, begin, step, cancel, tick, State}
 use Rattle.model.specs.Refusals.{unless, refusal}
 use Rattle.model.specs.Promise.{next}
@@ -15,7 +15,7 @@ use Rattle.model.specs.Linearization.{Entry}
 unfoldable pub eventOf : Action → ℕ → Thread → Entry
 eventOf (stay a) x h = none
 eventOf takeLock x h = none
-eventOf (giveUp c) x h = some (aborts x c)
+eventOf (abortSend c) x h = some (aborts x c)
 eventOf startCopy x h = none
 eventOf toRelease x h = none
 eventOf copyWord x h = none
@@ -24,7 +24,7 @@ eventOf finishSend x h = some (rendezvous x (h .op .send .target))
 eventOf (freeTarget p) x h = none
 eventOf retry x h = none
 eventOf toIdle x h = none
-eventOf (endWait c) x h = some (aborts x c)
+eventOf (abortReceive c) x h = some (aborts x c)
 eventOf (takeSender s) x h = none
 eventOf clearPoll x h = none
 eventOf freeSender x h = none

@@ -18,8 +18,8 @@ pub data Action : Type 0 where
   stay : Reply → Action
   -- lock: take the target's lock
   takeLock : Action
-  -- check: give up with this code, start to copy, or go to release
-  giveUp : ℤ → Action
+  -- check: abort with this code (document 01's "give up"), start to copy, or go to release
+  abortSend : ℤ → Action
   startCopy toRelease : Action
   -- copy: one word, or the end of the send part of an operation with a receive part or without
   copyWord finishCall finishSend : Action
@@ -27,9 +27,9 @@ pub data Action : Type 0 where
   freeTarget : Phase → Action
   -- sleep: go to lock
   retry : Action
-  -- look: go idle, end with this code, or take the lock of this sender
+  -- look: go idle, abort with this code, or take the lock of this sender, which is the other thread
   toIdle : Action
-  endWait : ℤ → Action
+  abortReceive : ℤ → Action
   takeSender : ℕ → Action
   -- wake: clear the sender's `poll`
   clearPoll : Action
@@ -57,7 +57,7 @@ other h = otherIn (phaseOf (h .phase)) h
 -- "none and `left` 0, end with -3; answer asleep"
 unfoldable pub lookAt : Thread → Thread → Option ℕ → Action
 lookAt h r (some s) = cond (r .flags .poll) (cond (lockFree r) (takeSender s) (stay wants)) (stay asleep)
-lookAt h r none = cond (eqb (h .left) 0) (endWait receiveTimeOver) (stay asleep)
+lookAt h r none = cond (eqb (h .left) 0) (abortReceive receiveTimeOver) (stay asleep)
 
 -- the action of thread x, which is h, by its phase; r is the other thread
 unfoldable pub decideIn : Phase → ℕ → Thread → Thread → Action
@@ -66,7 +66,7 @@ decideIn idle x h r = stay Reply.idle
 -- "target's lock free: take it .. Else answer wants"
 decideIn lock x h r = cond (lockFree r) takeLock (stay wants)
 -- "own mark, give up with -6; target ready for t, go to copy; `left` is 0, give up with -4; else release"
-decideIn check x h r = cond (h .flags .mark) (giveUp sendCancelled) (cond (ready r x) startCopy (cond (eqb (h .left) 0) (giveUp sendTimeOver) toRelease))
+decideIn check x h r = cond (h .flags .mark) (abortSend sendCancelled) (cond (ready r x) startCopy (cond (eqb (h .left) 0) (abortSend sendTimeOver) toRelease))
 -- "one word a step. When none remains, that step finishes", with a receive part or without
 decideIn copy x h r = cond (ltb (h .copied) (h .op .send .count)) copyWord (cond (hasReceive (h .op .receive)) finishCall finishSend)
 -- "free the lock. Then `send` set: sleep; `ipc` set: look; else idle"
@@ -74,7 +74,7 @@ decideIn release x h r = cond (h .flags .send) (freeTarget sleep) (cond (h .flag
 -- "`poll` clear, or marked, or `left` 0: go to lock. Else answer asleep"
 decideIn sleep x h r = cond (not (h .flags .poll) || h .flags .mark || eqb (h .left) 0) retry (stay asleep)
 -- "`ipc` clear, go idle; marked, end with -5, idle; the first acceptable sender .."
-decideIn look x h r = cond (h .flags .ipc) (cond (h .flags .mark) (endWait receiveCancelled) (lookAt h r (findSender h))) toIdle
+decideIn look x h r = cond (h .flags .ipc) (cond (h .flags .mark) (abortReceive receiveCancelled) (lookAt h r (findSender h))) toIdle
 -- "clear that sender's `poll`, go to unlock"
 decideIn wake x h r = clearPoll
 -- "free its lock, go to look"
@@ -92,7 +92,7 @@ decide t x =
 unfoldable pub replyOf : Action → Reply
 replyOf (stay a) = a
 replyOf takeLock = moved
-replyOf (giveUp c) = moved
+replyOf (abortSend c) = moved
 replyOf startCopy = moved
 replyOf toRelease = moved
 replyOf copyWord = moved
@@ -101,7 +101,7 @@ replyOf finishSend = moved
 replyOf (freeTarget p) = moved
 replyOf retry = moved
 replyOf toIdle = moved
-replyOf (endWait c) = moved
+replyOf (abortReceive c) = moved
 replyOf (takeSender s) = moved
 replyOf clearPoll = moved
 replyOf freeSender = moved
@@ -111,7 +111,7 @@ unfoldable pub ownAfter : Action → Thread → Thread
 ownAfter (stay a) h = h
 ownAfter takeLock h = entering check (polled true h)
 -- "Giving up leaves the queue, drops the receive part, clears all flags, and goes to release"
-ownAfter (giveUp c) h = entering release (withoutReceive (ended (codeOnly c) h))
+ownAfter (abortSend c) h = entering release (withoutReceive (ended (codeOnly c) h))
 ownAfter startCopy h = entering copy (withCopied 0 h)
 ownAfter toRelease h = entering release h
 ownAfter copyWord h = withCopied (h .copied + 1) h
@@ -123,7 +123,7 @@ ownAfter (freeTarget p) h = entering p h
 ownAfter retry h = entering lock h
 ownAfter toIdle h = entering idle h
 -- "Ending clears all flags"
-ownAfter (endWait c) h = entering idle (ended (codeOnly c) h)
+ownAfter (abortReceive c) h = entering idle (ended (codeOnly c) h)
 ownAfter (takeSender s) h = entering wake (withWaking s h)
 ownAfter clearPoll h = entering unlock h
 ownAfter freeSender h = entering look h
@@ -136,7 +136,7 @@ received x h r = ended (record { code = done; source = x; count = h .op .send .c
 unfoldable pub otherAfter : Action → ℕ → Thread → Thread → Thread
 otherAfter (stay a) x h r = r
 otherAfter takeLock x h r = withOwner x r
-otherAfter (giveUp c) x h r = departed x r
+otherAfter (abortSend c) x h r = departed x r
 otherAfter startCopy x h r = r
 otherAfter toRelease x h r = r
 otherAfter copyWord x h r = r
@@ -145,7 +145,7 @@ otherAfter finishSend x h r = received x h r
 otherAfter (freeTarget p) x h r = withOwner nobody r
 otherAfter retry x h r = r
 otherAfter toIdle x h r = r
-otherAfter (endWait c) x h r = r
+otherAfter (abortReceive c) x h r = r
 otherAfter (takeSender s) x h r = withOwner x r
 otherAfter clearPoll x h r = polled false r
 otherAfter freeSender x h r = withOwner nobody r
@@ -162,7 +162,7 @@ wordCopied h store = set store (8 * (h .op .send .target) + h .copied) (getD (h 
 unfoldable pub storeAfter : Action → Thread → List ℕ → List ℕ
 storeAfter (stay a) h store = store
 storeAfter takeLock h store = store
-storeAfter (giveUp c) h store = store
+storeAfter (abortSend c) h store = store
 storeAfter startCopy h store = store
 storeAfter toRelease h store = store
 storeAfter copyWord h store = wordCopied h store
@@ -171,7 +171,7 @@ storeAfter finishSend h store = store
 storeAfter (freeTarget p) h store = store
 storeAfter retry h store = store
 storeAfter toIdle h store = store
-storeAfter (endWait c) h store = store
+storeAfter (abortReceive c) h store = store
 storeAfter (takeSender s) h store = store
 storeAfter clearPoll h store = store
 storeAfter freeSender h store = store
