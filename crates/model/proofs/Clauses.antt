@@ -12,7 +12,7 @@ use Rattle.model.specs.Shared.{done, running, neverBegun, nobody, codeOn
 use Rattle.model.specs.Threads.{idle, check, copy, release, sleep, look, wake, unknown, newTable, edit, withFlags, entering, withOp, withLeft, withQueue, withOwner, withOutcome, withCopied, withWaking, polled, marked, withoutReceive}
 use Rattle.model.specs.WellFormed.{clauses, wellFormed}
 use Rattle.model.specs.Calls.{beginTable}
-use Rattle.model.specs.Marked.{sendTo, receiveOnly, openFor, closedFor, flags}
+use Rattle.model.specs.Examples.{sendTo, receiveOnly, openFor, closedFor, flags}
 use Rattle.model.proofs.Computing.{computing}
 
 -- the places of a list of tests at which one fails
@@ -49,14 +49,14 @@ waker =
 
 -- ---- a table for each clause, in the order of document 01's list
 pub data Clause : Type 0 where
-  size numbers ipcExactly bare others queues owners chains sendAndMark poll receiving withoutSend idleFlags releaseTarget sendClear sendSet copiesToMarked copiesToSending copiesToOther : Clause
+  size numbers ipcExactly bareOutcome withOthers queues owners chains sendAndMark poll receiving withoutSend idleFlags releaseTarget sendClear sendSet copiesToMarked copiesToSending copiesToOther : Clause
 
 unfoldable pub broken : Clause → Table
 broken size = newTable 0
 broken numbers = edit 0 (entering unknown) (newTable 3)
 broken ipcExactly = edit 0 (withOutcome (codeOnly running)) (newTable 3)
-broken bare = edit 0 (withOutcome (record { code = neverBegun; source = 1; count = 0 })) (newTable 3)
-broken others = edit 1 (withOp (receiveOnly (closedFor 1 15))) receiver
+broken bareOutcome = edit 0 (withOutcome (record { code = neverBegun; source = 1; count = 0 })) (newTable 3)
+broken withOthers = edit 1 (withOp (receiveOnly (closedFor 1 15))) receiver
 broken queues = edit 1 (withQueue (record { items = replicate 32 0; len = 0 })) sender
 broken owners = edit 1 (withOwner nobody) locker
 broken chains = edit 0 (λ h. entering check (withOwner 1 h)) (edit 1 (λ h. entering check (withOwner 0 h)) crossed)
@@ -76,8 +76,8 @@ unfoldable pub place : Clause → ℕ
 place size = 0
 place numbers = 1
 place ipcExactly = 2
-place bare = 3
-place others = 4
+place bareOutcome = 3
+place withOthers = 4
 place queues = 5
 place owners = 6
 place chains = 7
@@ -104,8 +104,8 @@ unfolding tables
 clause-counts size = refl
 clause-counts numbers = refl
 clause-counts ipcExactly = refl
-clause-counts bare = refl
-clause-counts others = refl
+clause-counts bareOutcome = refl
+clause-counts withOthers = refl
 clause-counts queues = refl
 clause-counts owners = refl
 clause-counts chains = refl
@@ -121,9 +121,9 @@ clause-counts copiesToMarked = refl
 clause-counts copiesToSending = refl
 clause-counts copiesToOther = refl
 
--- ---- "every number in use is in range": a table for each number
+-- ---- "every number in use is in range": a table for each number, but for the queue's length, which no table breaks alone
 pub data Number : Type 0 where
-  phase target count sendTime receiveTime partner sendPart left owner code source wordCount copied waking : Number
+  phase target count sendTime receiveTime partner sendPart releasePart left owner code source wordCount copied waking : Number
 
 unfoldable pub outOfRange : Number → Table
 outOfRange phase = edit 0 (entering unknown) (newTable 3)
@@ -133,6 +133,7 @@ outOfRange sendTime = edit 0 (withOp (sendTo 1 [] 16 Absent)) sender
 outOfRange receiveTime = edit 1 (withOp (receiveOnly (openFor 16))) receiver
 outOfRange partner = edit 1 (withOp (receiveOnly (closedFor 3 15))) receiver
 outOfRange sendPart = edit 0 (withOp (record { send = record { present = false; target = 1; count = 0; time = 15; words = replicate 8 0 }; receive = Absent })) sender
+outOfRange releasePart = edit 0 (λ h. entering release (withOp (record { send = record { present = false; target = 1; count = 0; time = 0; words = replicate 8 0 }; receive = Absent }) h)) (edit 1 (withOwner 0) (newTable 3))
 outOfRange left = edit 1 (withLeft 20001) receiver
 outOfRange owner = edit 0 (withOwner 3) (newTable 3)
 outOfRange code = edit 0 (withOutcome (codeOnly (pos 3))) (newTable 3)
@@ -150,6 +151,7 @@ number-counts sendTime = refl
 number-counts receiveTime = refl
 number-counts partner = refl
 number-counts sendPart = refl
+number-counts releasePart = refl
 number-counts left = refl
 number-counts owner = refl
 number-counts code = refl

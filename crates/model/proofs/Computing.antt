@@ -10,17 +10,17 @@ use Rattle.model.specs.Refusals
 use Rattle.model.specs.Promise
 use Rattle.model.specs.Atomic
 use Rattle.model.specs.Linearization
-use Rattle.model.specs.Order
+use Rattle.model.specs.Linearized
 use Rattle.model.specs.Schedule
 use Rattle.model.specs.Bondtrace
-use Rattle.model.specs.Marked
+use Rattle.model.specs.Examples
 
 unfoldable pub lists : ℕ
 unfolding Lists.implies Lists.allOf Lists.allBelow Lists.occurs Lists.without Lists.placeWhere Lists.upTo Lists.update Lists.concat
 lists = 0
 
 unfoldable pub shared : ℕ
-unfolding Shared.isFailure Shared.isTimeCode Shared.isLeft Shared.ticks Shared.fall Shared.targetBeyond Shared.message
+unfolding Shared.isFailure Shared.isTimeCode Shared.isLeft Shared.tickCount Shared.fall Shared.targetBeyond Shared.message
 shared = 0
 
 unfoldable pub threads : ℕ
@@ -56,7 +56,7 @@ unfolding Linearization.played Linearization.latest Linearization.pairs Lineariz
 traces = 0
 
 unfoldable pub orders : ℕ
-unfolding Order.eventOf Order.acceptedEntry Order.entry Order.order
+unfolding Linearized.eventOf Linearized.acceptedEntry Linearized.entry Linearized.linearization
 orders = 0
 
 unfoldable pub bytes : ℕ
@@ -68,7 +68,7 @@ unfolding Bondtrace.ascii Bondtrace.digits Bondtrace.decimal Bondtrace.signed Bo
 texts = 0
 
 unfoldable pub rows : ℕ
-unfolding Marked.answersOf Marked.run Marked.seen Marked.workedOut Marked.row
+unfolding Examples.answersOf Examples.run Examples.seen Examples.workedOut Examples.row
 rows = 0
 
 unfoldable pub computing : ℕ

@@ -1,20 +1,22 @@
 -- The list of what document 01 leaves free, with what ours holds there. Each is settled by a definition; here it is said in one place.
-use mathlib.Core.Path.{_≡_, refl}
+use mathlib.Core.Path.{_≡_, refl, _∙_}
+use mathlib.Core.Logic.{_≢_}
 use mathlib.Core.Bool.{Bool, true}
-use mathlib.Core.List.{List, []}
-use Prim.Native.Nat.{ℕ, suc}
-use lib.ListN.{replicate}
+use mathlib.Core.List.{List}
+use Prim.Native.Nat.{ℕ, suc, _+_, _-_}
+use lib.ListN.{length, getD, drop, replicate}
+use lib.Seq.{getD-set-other, getD-append-add, getD-drop}
 use lib.IntN.{ℤ}
-use Rattle.model.specs.declared.Receive.the-variants.{Absent}
 use Rattle.model.specs.declared.Operation.{Operation}
 use Rattle.model.specs.declared.Thread.{Thread}
 use Rattle.model.specs.declared.Table.{Table}
 use Rattle.model.specs.Shared.{noReceiver, codeOnly, targetBeyond}
-use Rattle.model.specs.Threads.{Phase, noOperation, newThread, newTable, edit, ended, departed}
+use Rattle.model.specs.Lists.{without}
+use Rattle.model.specs.Threads.{Phase, noOperation, newThread, newTable, edit, ended, withoutReceive, senders, joined, departed}
 use Rattle.model.specs.Step.{abortSend, finishCall, finishSend, abortReceive, ownAfter, received}
-use Rattle.model.specs.Calls.{begun, beginTable, State}
-use Rattle.model.specs.Refusals.{unless, makeRefusal, outcomeRefusal}
-use Rattle.model.specs.Promise.{madeTable, outcomeWords}
+use Rattle.model.specs.Calls.{begun, beginTable}
+use Rattle.model.specs.Refusals.{unless, makeRefusal}
+use Rattle.model.specs.Promise.{madeTable}
 use Rattle.model.specs.Schedule.{decodeRefusal, decode}
 
 -- what an ending can leave as it was: the operation, `left`, and the two numbers that belong to other phases
@@ -57,32 +59,36 @@ pub after-receive : (x : ℕ) (h r : Thread) → Keeps r (received x h r)
 unfolding received departed
 after-receive x h r = record { operation = refl; left = refl; copied = refl; waking = refl }
 
--- 7. after -6 and -4: the send part and `left` stay as they were; that the receive part is dropped is document 01's
-pub after-abort : (c : ℤ) (h : Thread) → (ownAfter (abortSend c) h .op .send ≡ h .op .send) × (ownAfter (abortSend c) h .op .receive ≡ Absent) × (ownAfter (abortSend c) h .left ≡ h .left)
+-- 7. after -6 and -4: the same but for the receive part, which document 01 drops
+pub after-abort : (c : ℤ) (h : Thread) → (ownAfter (abortSend c) h .op .send ≡ h .op .send) × Keeps (withoutReceive h) (ownAfter (abortSend c) h)
 unfolding ownAfter
-after-abort c h = (refl, refl, refl)
+after-abort c h = (refl, record { operation = refl; left = refl; copied = refl; waking = refl })
 
 -- 8. a call past its send part: the send part stays stored
 pub after-first-part : (h : Thread) → ownAfter finishCall h .op ≡ h .op
 unfolding ownAfter
 after-first-part h = refl
 
--- 9. words copied and the woken sender outside their phases: what they last were
+-- 9. words copied and the woken sender outside their phases: what they last were; a begin leaves them, and of the actions only `startCopy` and
+-- `copyWord` change the one and only `takeSender` the other, as `ownAfter` is written
 pub at-begin : (o : Operation) (p : Phase) (h : Thread) → (begun o p h .copied ≡ h .copied) × (begun o p h .waking ≡ h .waking)
 unfolding begun
 at-begin o p h = (refl, refl)
 
--- 10. queue places past the length: what they last held, as `joined` and `departed` are written
+-- 10. queue places past the length: what they last held. Joining sets the place at the length alone; leaving keeps what stood from the last
+-- sender's place on
+pub at-join : (s i : ℕ) (h : Thread) → i ≢ h .queue .len → getD (joined s h .queue .items) i 0 ≡ getD (h .queue .items) i 0
+unfolding joined
+at-join s i h d = getD-set-other (h .queue .items) (h .queue .len) i s 0 d
 
--- 11. the words of a refused outcome: none
-pub no-words : (s : State) (x g : ℕ) → outcomeRefusal s x ≡ suc g → outcomeWords s x ≡ []
-unfolding outcomeWords unless
-no-words s x g e = rw e refl
+pub at-leave : (s i : ℕ) (h : Thread) → getD (departed s h .queue .items) (length (without s (senders h)) + i) 0 ≡ getD (h .queue .items) (h .queue .len - 1 + i) 0
+unfolding departed
+at-leave s i h = getD-append-add (without s (senders h)) (drop (h .queue .len - 1) (h .queue .items)) i 0 ∙ getD-drop (h .queue .len - 1) (h .queue .items) i 0
 
--- 12. the record of a refused reading: all zero
+-- 11. the record of a refused reading: all zero
 pub no-record : (first : Bool) (bytes : List ℕ) (g : ℕ) → decodeRefusal first bytes ≡ suc g → decode first bytes ≡ record { kind = 0; thread = 0; op = noOperation }
 unfolding decode unless
 no-record first bytes g e = rw e refl
 
--- 13. threads from N on: what they were when the table was made; a call edits its own thread and threads that a well-formed table names,
--- all below N
+-- 12. threads from N on: what they were when the table was made. A call changes its own thread and threads that a well-formed table names;
+-- that these are below N is a theorem to come

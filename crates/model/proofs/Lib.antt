@@ -5,7 +5,7 @@ pub mod Traces
 pub mod Chains
 pub mod Tested
 pub mod Computing
-pub mod Marked
+pub mod Examples
 pub mod Clauses
 pub mod Making
 pub mod Printed

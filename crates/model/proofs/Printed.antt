@@ -9,7 +9,7 @@ use Rattle.model.specs.declared.Record.{Record}
 use Rattle.model.specs.Threads.{noOperation}
 use Rattle.model.specs.Schedule.{encodeAll, decodeAll}
 use Rattle.model.specs.Bondtrace.{ascii, bondtrace}
-use Rattle.model.specs.Marked.{sendTo, receiveOnly, openFor}
+use Rattle.model.specs.Examples.{sendTo, receiveOnly, openFor}
 use Rattle.model.proofs.Computing.{computing}
 
 -- a record without an operation, and a begin
@@ -26,8 +26,8 @@ p1 =
     ∷ short 2 0 ∷ short 2 0 ∷ short 2 0 ∷ short 2 0 ∷ short 2 0 ∷ short 2 1 ∷ []
 
 -- its bytes
-unfoldable pub p1-bytes : List ℕ
-p1-bytes =
+unfoldable pub p1Bytes : List ℕ
+p1Bytes =
     0x4C ∷ 0x34 ∷ 0 ∷ 2
     ∷ 0x4C ∷ 0x34 ∷ 1 ∷ 1 ∷ 6 ∷ 0 ∷ 0 ∷ 0 ∷ 0 ∷ 15 ∷ 0 ∷ 0 ∷ 0 ∷ 0 ∷ 0 ∷ 0 ∷ 0 ∷ 0 ∷ 0 ∷ 0 ∷ 0 ∷ 0 ∷ 0 ∷ 0 ∷ 0 ∷ 0 ∷ 0 ∷ 0 ∷ 0 ∷ 0 ∷ 0 ∷ 0 ∷ 0 ∷ 0 ∷ 0 ∷ 0 ∷ 0 ∷ 0 ∷ 0 ∷ 0 ∷ 0 ∷ 0
     ∷ 0x4C ∷ 0x34 ∷ 1 ∷ 0 ∷ 1 ∷ 1 ∷ 0 ∷ 1 ∷ 15 ∷ 0 ∷ 250 ∷ 0 ∷ 0 ∷ 0 ∷ 0 ∷ 0 ∷ 0 ∷ 0 ∷ 0 ∷ 0 ∷ 0 ∷ 0 ∷ 0 ∷ 0 ∷ 0 ∷ 0 ∷ 0 ∷ 0 ∷ 0 ∷ 0 ∷ 0 ∷ 0 ∷ 0 ∷ 0 ∷ 0 ∷ 0 ∷ 0 ∷ 0 ∷ 0 ∷ 0 ∷ 0 ∷ 0
@@ -39,22 +39,22 @@ p1-bytes =
     ∷ 0x4C ∷ 0x34 ∷ 2 ∷ 1
     ∷ []
 
-pub p1-encoded : encodeAll p1 ≡ p1-bytes
-unfolding computing p1 p1-bytes
+pub p1-encoded : encodeAll p1 ≡ p1Bytes
+unfolding computing p1 p1Bytes
 p1-encoded = refl
 
-pub p1-decoded : decodeAll p1-bytes .records ≡ p1
-unfolding computing p1 p1-bytes
+pub p1-decoded : decodeAll p1Bytes .records ≡ p1
+unfolding computing p1 p1Bytes
 p1-decoded = refl
 
 -- "P1 below prints exactly"
-pub p1-printed : bondtrace p1-bytes ≡ ascii "records 9 refused 0\n0 0 255 0\n1 0 0 1 250\n"
-unfolding computing p1-bytes
+pub p1-printed : bondtrace p1Bytes ≡ ascii "records 9 refused 0\n0 0 255 0\n1 0 0 1 250\n"
+unfolding computing p1Bytes
 p1-printed = refl
 
 -- "`bad 12 at 46`": P1 cut short within its third record
-pub cut-short : bondtrace (take 60 p1-bytes) ≡ ascii "bad 12 at 46\n"
-unfolding computing p1-bytes
+pub cut-short : bondtrace (take 60 p1Bytes) ≡ ascii "bad 12 at 46\n"
+unfolding computing p1Bytes
 cut-short = refl
 
 -- "input empty"

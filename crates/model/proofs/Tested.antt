@@ -87,8 +87,8 @@ well-formed-tested t w = all-of-made _ (
     w .size
     and each-same t _ .0 (w .numbers)
     and each-same t _ .0 (w .ipcExactly)
-    and each-same t _ .0 (w .bare)
-    and each-same t _ .0 (w .others)
+    and each-same t _ .0 (w .bareOutcome)
+    and each-same t _ .0 (w .withOthers)
     and all-below-made (t .n) _ (λ r rn. queue-same t r .0 (w .queues r rn))
     and all-below-made (t .n) _ (λ r rn. owner-same t r .0 (λ o. w .owners r o rn))
     and all-below-made (t .n) _ (λ r rn. chain-same t r .0 (λ k kn. w .chains r rn k))
@@ -108,14 +108,14 @@ well-formed-tested t w = all-of-made _ (
 pub well-formed-told : (t : Table) → wellFormed t ≡ true → WellFormed t
 unfolding wellFormed clauses
 well-formed-told t e =
-    let (size, (numbers, (ipcExactly, (bare, (others, (queues, (owners, (chains, more)))))))) = all-of-read _ e in
+    let (size, (numbers, (ipcExactly, (bareOutcome, (withOthers, (queues, (owners, (chains, more)))))))) = all-of-read _ e in
     let (sendAndMark, (poll, (receiving, (withoutSend, (idleFlags, (releaseTarget, (sendClear, (sendSet, (copies, end))))))))) = more in
     record {
       size = size;
       numbers = each-same t _ .1 numbers;
       ipcExactly = each-same t _ .1 ipcExactly;
-      bare = each-same t _ .1 bare;
-      others = each-same t _ .1 others;
+      bareOutcome = each-same t _ .1 bareOutcome;
+      withOthers = each-same t _ .1 withOthers;
       queues = λ r rn. queue-same t r .1 (all-below-read (t .n) _ queues r rn);
       owners = λ r o rn. owner-same t r .1 (all-below-read (t .n) _ owners r rn) o;
       chains = chains-long (ownerOf t) (t .n) (owned-in t (size-small (t .n) size)) (λ r rn. chain-same t r .1 (all-below-read (t .n) _ chains r rn));

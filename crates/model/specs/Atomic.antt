@@ -8,7 +8,7 @@ use Rattle.model.specs.declared.Receive.{Receive}
 use Rattle.model.specs.declared.Operation.{Operation}
 use Rattle.model.specs.declared.Outcome.{Outcome}
 use Rattle.model.specs.Lists.{allOf, update}
-use Rattle.model.specs.Shared.{done, running, neverBegun, noReceiver, receiveTimeOver, sendTimeOver, receiveCancelled, sendCancelled, codeOnly, targetBeyond, View, ticks, fall, hasReceive, receiveTime, accepts, firstTime, message}
+use Rattle.model.specs.Shared.{done, running, neverBegun, noReceiver, receiveTimeOver, sendTimeOver, receiveCancelled, sendCancelled, codeOnly, targetBeyond, View, tickCount, fall, hasReceive, receiveTime, accepts, firstTime, message}
 
 -- "a running operation, sending or receiving, or none"
 pub data Run : Type 0 where
@@ -36,7 +36,7 @@ firstMachine x = record { run = nothing; mark = false; left = 0; outcome = codeO
 pub data Event : Type 0 where
   begins : ℕ → Operation → Event
   cancels : ℕ → Event
-  ticksOn : Event
+  ticks : Event
   -- document 01's "meeting" of a queued sender and its target
   rendezvous : ℕ → ℕ → Event
   -- document 01's "give-up", with its code
@@ -60,7 +60,7 @@ firstPart o = cond (o .send .present) (sending o) (receiving (o .receive))
 unfoldable pub beginning : ℕ → Operation → AtomicThread → AtomicThread
 beginning n o p =
     cond (targetBeyond n o) (ending (codeOnly noReceiver) [] p)
-    (record { run = firstPart o; mark = false; left = ticks (firstTime o); outcome = codeOnly running; words = [] })
+    (record { run = firstPart o; mark = false; left = tickCount (firstTime o); outcome = codeOnly running; words = [] })
 
 -- "running, set the mark"
 unfoldable pub cancelling : AtomicThread → AtomicThread
@@ -78,7 +78,7 @@ receiverAfter s (receiving r) p = p
 
 -- "it is receiving, mark kept, `left` from the receive code"
 abbrev pub turning : Receive → AtomicThread → AtomicThread
-turning r p = record { run = receiving r; mark = p .mark; left = ticks (receiveTime r); outcome = p .outcome; words = p .words }
+turning r p = record { run = receiving r; mark = p .mark; left = tickCount (receiveTime r); outcome = p .outcome; words = p .words }
 
 -- "s without a receive part ends with 0; else it is receiving"
 unfoldable pub senderAfter : Run → AtomicThread → AtomicThread
@@ -90,7 +90,7 @@ senderAfter (receiving r) p = p
 unfoldable pub play : ℕ → Event → Machine → Machine
 play n (begins x o) p = update p x (beginning n o (p x))
 play n (cancels x) p = update p x (cancelling (p x))
-play n ticksOn p = λ x. ticking (p x)
+play n ticks p = λ x. ticking (p x)
 play n (rendezvous s r) p = update (update p r (receiverAfter s (p s .run) (p r))) s (senderAfter (p s .run) (p s))
 play n (aborts x c) p = update p x (ending (codeOnly c) [] (p x))
 
@@ -102,7 +102,7 @@ pub data AtomicReply : Type 0 where
 unfoldable pub reply : Event → Machine → AtomicReply
 reply (begins x o) p = accepted
 reply (cancels x) p = cond (runs (p x .run)) marked nothingToCancel
-reply ticksOn p = accepted
+reply ticks p = accepted
 reply (rendezvous s r) p = accepted
 reply (aborts x c) p = accepted
 
@@ -145,10 +145,10 @@ pub data CanAbort (n : ℕ) (p : Machine) (x : ℕ) : ℤ → Type 0 where
   cancelledReceiving : (r : Receive) → p x .run ≡ receiving r → p x .mark ≡ true → CanAbort n p x receiveCancelled
   lateReceiving : (r : Receive) → p x .run ≡ receiving r → p x .left ≡ 0 → NoneAcceptable n p x → CanAbort n p x receiveTimeOver
 
--- the conditions of an event: a begin finds "nothing running"; a meeting is "of a queued sender s and its target r, ready for it"
+-- the conditions of an event: a begin finds "nothing running"; a rendezvous is "of a queued sender s and its target r, ready for it"
 abbrev pub Can : ℕ → Event → Machine → Type 0
 Can n (begins x o) p = (x < n) × (p x .run ≡ nothing)
 Can n (cancels x) p = x < n
-Can n ticksOn p = Unit {0}
+Can n ticks p = Unit {0}
 Can n (rendezvous s r) p = (s < n) × (r < n) × QueuedAt p s r × (readyFor p r s ≡ true)
 Can n (aborts x c) p = (x < n) × CanAbort n p x c

@@ -36,7 +36,7 @@ digits (suc most) n =
 unfoldable pub decimal : ℕ → List ℕ
 decimal n = digits (suc n) n
 
--- "codes with their sign"
+-- a code, "printed with" its sign
 unfoldable pub signed : ℤ → List ℕ
 signed (pos n) = decimal n
 signed (negsuc n) = ascii "-" ++ decimal (suc n)

@@ -7,7 +7,7 @@ use Rattle.model.specs.declared.Operation.{Operation}
 use Rattle.model.specs.declared.Thread.{Thread}
 use Rattle.model.specs.declared.Table.{Table}
 use Rattle.model.specs.Answers.{Reply, accepted, nothingToCancel}
-use Rattle.model.specs.Shared.{running, noReceiver, codeOnly, targetBeyond, ticks, fall, hasReceive, firstTime}
+use Rattle.model.specs.Shared.{running, noReceiver, codeOnly, targetBeyond, tickCount, fall, hasReceive, firstTime}
 use Rattle.model.specs.Threads.{Phase, lock, look, at, edit, editBelow, withFlags, entering, withOp, withLeft, withOutcome, marked, ended, joined, zeroed}
 use Rattle.model.specs.Step.{decide, replyOf, act, storeAfter}
 
@@ -18,7 +18,7 @@ begunFlags o = record { ipc = true; send = o .send .present; receiving = hasRece
 
 -- a thread that begins o in phase p: "`left` comes from the send code, else the receive code"; code 1, source 255, count 0
 unfoldable pub begun : Operation → Phase → Thread → Thread
-begun o p h = entering p (withFlags (begunFlags o) (withOp o (withLeft (ticks (firstTime o)) (withOutcome (codeOnly running) h))))
+begun o p h = entering p (withFlags (begunFlags o) (withOp o (withLeft (tickCount (firstTime o)) (withOutcome (codeOnly running) h))))
 
 -- "joins the end of the target's queue; phase lock"; "without a send part: phase look"; "a target of N or more ends the whole operation with -2, idle"
 unfoldable pub beginTable : ℕ → Operation → Table → Table

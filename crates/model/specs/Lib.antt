@@ -9,7 +9,7 @@ pub mod Refusals
 pub mod Promise
 pub mod Atomic
 pub mod Linearization
-pub mod Order
+pub mod Linearized
 pub mod Schedule
 pub mod Bondtrace
-pub mod Marked
+pub mod Examples

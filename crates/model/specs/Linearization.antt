@@ -1,4 +1,4 @@
--- Demand 3: for every trace from a new table there is one order of atomic events that no user can tell from it.
+-- Demand 3: for every trace from a new table there is one linearization, an order of atomic events that no user can tell from it.
 use mathlib.Core.Path.{_≡_}
 use mathlib.Core.Logic.{_≢_, _⊎_}
 use mathlib.Core.Bool.{Bool, true, false, cond, _&&_, _||_}
@@ -15,7 +15,7 @@ use Rattle.model.specs.Shared.{done, running, receiveTimeOver, receiveCa
 use Rattle.model.specs.Threads.{newTable}
 use Rattle.model.specs.Calls.{Call, begin, step, cancel, tick, State}
 use Rattle.model.specs.Promise.{Promise, state, view}
-use Rattle.model.specs.Atomic.{AtomicThread, Machine, firstMachine, Event, begins, cancels, ticksOn, rendezvous, aborts, play, AtomicReply, reply, shows, isReceiving, Can}
+use Rattle.model.specs.Atomic.{AtomicThread, Machine, firstMachine, Event, begins, cancels, ticks, rendezvous, aborts, play, AtomicReply, reply, shows, isReceiving, Can}
 
 -- ---- traces
 -- a call, what it answered, and the table and store that it left
@@ -29,16 +29,17 @@ abbrev pub Trace : State → List Observed → Type 0
 Trace s [] = Unit {0}
 Trace s (c ∷ cs) = Promise (c .call) s (c .answer) (c .after) × Trace (c .after) cs
 
--- ---- an order (document 01's "whole order"): for each call of the trace one atomic event, or none
+-- ---- a linearization (document 01's "whole order"): an entry for each call of the trace
+-- one atomic event, or none
 abbrev pub Entry : Type 0
 Entry = Option Event
 
--- `past` is the order up to some call, the newest entry first: an entry's place is the number of entries behind it
+-- the atomic machine after an entry
 abbrev pub playEntry : ℕ → Entry → Machine → Machine
 playEntry n none p = p
 playEntry n (some e) p = play n e p
 
--- the atomic machine after the entries of `past`
+-- the atomic machine after the entries up to some call, the newest of them first: an entry's place is the number of entries behind it
 unfoldable pub played : ℕ → List Entry → Machine
 played n [] = firstMachine
 played n (e ∷ past) = playEntry n e (played n past)
@@ -60,7 +61,7 @@ abbrev pub AtStep : Entry → Type 0
 AtStep none = Unit {0}
 AtStep (some (begins x o)) = ⊥
 AtStep (some (cancels x)) = ⊥
-AtStep (some ticksOn) = ⊥
+AtStep (some ticks) = ⊥
 AtStep (some (rendezvous s r)) = Unit {0}
 AtStep (some (aborts x c)) = Unit {0}
 
@@ -69,7 +70,7 @@ abbrev pub AtAccepted : Call → Reply → Entry → Machine → Type 0
 AtAccepted (begin x o) a e p = OwnEvent (begins x o) a e p
 AtAccepted (step x) a e p = AtStep e
 AtAccepted (cancel x) a e p = OwnEvent (cancels x) a e p
-AtAccepted tick a e p = OwnEvent ticksOn a e p
+AtAccepted tick a e p = OwnEvent ticks a e p
 
 -- "a refused call is none"
 abbrev pub AtCall : Call → Said → Entry → Machine → Type 0
@@ -77,16 +78,16 @@ AtCall c (refused g) e p = e ≡ none
 AtCall c (replied a) e p = AtAccepted c a e p
 
 -- "each event's conditions hold where it stands"
-abbrev pub Lawful : ℕ → Entry → Machine → Type 0
-Lawful n none p = Unit {0}
-Lawful n (some e) p = Can n e p
+abbrev pub Allowed : ℕ → Entry → Machine → Type 0
+Allowed n none p = Unit {0}
+Allowed n (some e) p = Can n e p
 
 -- ---- operations, known by the place of their begin
 abbrev pub beginsBy : ℕ → Entry → Bool
 beginsBy x none = false
 beginsBy x (some (begins y o)) = eqb y x
 beginsBy x (some (cancels y)) = false
-beginsBy x (some ticksOn) = false
+beginsBy x (some ticks) = false
 beginsBy x (some (rendezvous s r)) = false
 beginsBy x (some (aborts y c)) = false
 
@@ -112,7 +113,7 @@ HasEnded n x i (e ∷ past) = (EndsAt n x e past × (latest x (e ∷ past) ≡ s
 -- ---- one call c, with the entry e in its place, after `past`
 pub record Follows (n : ℕ) (past : List Entry) (c : Observed) (e : Entry) : Type 0 where
   pub place : AtCall (c .call) (said (c .answer)) e (played n past)
-  pub lawful : Lawful n e (played n past)
+  pub allowed : Allowed n e (played n past)
   -- "after every call, each thread's code, source and count in the table and its first `count` words in the store"
   pub views : (x : ℕ) → x < n → view (c .after) x ≡ shows (played n (e ∷ past)) x
   -- an ending stands no earlier than its operation's begin
@@ -128,13 +129,13 @@ FollowsAll n past (c ∷ cs) [] = ⊥
 FollowsAll n past (c ∷ cs) (e ∷ es) = Follows n past c e × FollowsAll n (e ∷ past) cs es
 
 -- ---- "Each completed one is in exactly one meeting as s, or as r"
--- the rendezvous of an order, each by the begins of its two operations
+-- the rendezvous of a linearization, each by the begins of its two operations
 unfoldable pub pairs : List Entry → List (ℕ × ℕ)
 pairs [] = []
 pairs (none ∷ past) = pairs past
 pairs (some (begins x o) ∷ past) = pairs past
 pairs (some (cancels x) ∷ past) = pairs past
-pairs (some ticksOn ∷ past) = pairs past
+pairs (some ticks ∷ past) = pairs past
 pairs (some (rendezvous s r) ∷ past) = (Option·getD (latest s past) 0, Option·getD (latest r past) 0) ∷ pairs past
 pairs (some (aborts x c) ∷ past) = pairs past
 
@@ -189,14 +190,14 @@ pub record Paired (n : ℕ) (past : List Entry) : Type 0 where
   pub matched : (i j : ℕ) → Among (i, j) (pairs past) → Match n i j past
 
 -- ---- the demand
--- no user can tell the order from the trace
-pub record Linearizes (n : ℕ) (trace : List Observed) (order : List Entry) : Type 0 where
-  pub follows : FollowsAll n [] trace order
-  pub paired : Paired n (reverse order)
+-- no user can tell the linearization from the trace
+pub record Linearizes (n : ℕ) (trace : List Observed) (linearization : List Entry) : Type 0 where
+  pub follows : FollowsAll n [] trace linearization
+  pub paired : Paired n (reverse linearization)
 
 -- "a new table of any N from 1 to 32 and a store of 8×N words, whatever they hold"
 abbrev pub Demand3 : Type 0
 Demand3 =
     (n : ℕ) → 1 ≤ n → n ≤ 32 → (store : List ℕ) → length store ≡ 8 * n
     → (trace : List Observed) → Trace (state (newTable n) store) trace
-    → (order : List Entry) × Linearizes n trace order
+    → (linearization : List Entry) × Linearizes n trace linearization

@@ -88,14 +88,14 @@ unfoldable pub isTimeCode : ℕ → Bool
 isTimeCode code = leb code 15
 
 -- the ticks that a time code stands for
-unfoldable pub ticks : ℕ → ℕ
-ticks code = getD tickCounts code 0
+unfoldable pub tickCount : ℕ → ℕ
+tickCount code = getD tickCounts code 0
 
 -- a number of ticks that `left` can hold while an operation runs
 unfoldable pub isLeft : ℕ → Bool
-isLeft left = leb left (ticks 14) || eqb left never
+isLeft left = leb left (tickCount 14) || eqb left never
 
--- a tick "lowers `left` by one, unless 0 or never"
+-- a tick "lowers `left` by one .., unless 0 or never"
 unfoldable pub fall : ℕ → ℕ
 fall left = cond (eqb left never) left (left - 1)
 

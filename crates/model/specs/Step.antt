@@ -9,7 +9,7 @@ use lib.IntN.{ℤ}
 use Rattle.model.specs.declared.Thread.{Thread}
 use Rattle.model.specs.declared.Table.{Table}
 use Rattle.model.specs.Answers.{Reply, moved, held, wants, asleep}
-use Rattle.model.specs.Shared.{done, receiveTimeOver, sendTimeOver, receiveCancelled, sendCancelled, nobody, codeOnly, ticks, hasReceive, receiveTime}
+use Rattle.model.specs.Shared.{done, receiveTimeOver, sendTimeOver, receiveCancelled, sendCancelled, nobody, codeOnly, tickCount, hasReceive, receiveTime}
 use Rattle.model.specs.Threads.{Phase, idle, lock, check, copy, release, sleep, look, wake, unlock, unknown, phaseOf, at, put, entering, withLeft, withOwner, withCopied, withWaking, polled, sent, ended, withoutReceive, departed, lockFree, findSender, ready}
 
 -- what a step does, once its tests are passed
@@ -54,7 +54,7 @@ unfoldable pub other : Thread → ℕ
 other h = otherIn (phaseOf (h .phase)) h
 
 -- look, with the first acceptable sender r: "if its `poll` is clear answer asleep, if its lock is taken answer wants, else take its lock";
--- "none and `left` 0, end with -3; answer asleep"
+-- "none and `left` 0, end with -3, idle; answer asleep"
 unfoldable pub lookAt : Thread → Thread → Option ℕ → Action
 lookAt h r (some s) = cond (r .flags .poll) (cond (lockFree r) (takeSender s) (stay wants)) (stay asleep)
 lookAt h r none = cond (eqb (h .left) 0) (abortReceive receiveTimeOver) (stay asleep)
@@ -116,7 +116,7 @@ ownAfter startCopy h = entering copy (withCopied 0 h)
 ownAfter toRelease h = entering release h
 ownAfter copyWord h = withCopied (h .copied + 1) h
 -- "clears `send` and `poll`. With a receive part `left` takes the receive code .. Go to release"
-ownAfter finishCall h = entering release (withLeft (ticks (receiveTime (h .op .receive))) (sent h))
+ownAfter finishCall h = entering release (withLeft (tickCount (receiveTime (h .op .receive))) (sent h))
 -- "without, t ends with code 0, source 255, flags cleared. Go to release"
 ownAfter finishSend h = entering release (ended (codeOnly done) h)
 ownAfter (freeTarget p) h = entering p h
@@ -154,7 +154,7 @@ otherAfter freeSender x h r = withOwner nobody r
 unfoldable pub act : Action → ℕ → Table → Table
 act a x t = let h = at t x in put x (ownAfter a h) (put (other h) (otherAfter a x h (at t (other h))) t)
 
--- copying sets the next word of the target's part of the store
+-- copying sets the next word of the target's slice of the store
 unfoldable pub wordCopied : Thread → List ℕ → List ℕ
 wordCopied h store = set store (8 * (h .op .send .target) + h .copied) (getD (h .op .send .words) (h .copied) 0)
 

@@ -187,7 +187,7 @@ findSender h = getElem? (senders h) (searchPlace h)
 unfoldable pub ready : Thread → ℕ → Bool
 ready h s = allOf (h .flags .ipc ∷ h .flags .receiving ∷ not (h .flags .send) ∷ not (h .flags .mark) ∷ accepts (h .op .receive) s ∷ [])
 
--- whose lock a thread holds in a phase: "check, copy and release hold the target's lock; wake and unlock that of the sender being woken; a thread holds no other"
+-- whose lock a thread holds in a phase: "check, copy and release hold the target's lock; wake and unlock hold that of the sender being woken; a thread holds no other"
 abbrev pub lockHeldIn : Phase → ℕ → ℕ → ℕ
 lockHeldIn idle target waking = nobody
 lockHeldIn lock target waking = nobody

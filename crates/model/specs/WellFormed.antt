@@ -1,5 +1,5 @@
 -- Document 01, "The table": when a table is well-formed (document 01's "sound"), as a list of facts and as a test that computes.
--- That the arrays have their places is a fact of the types and stands apart, in `Shaped`.
+-- That the arrays of threads and of queue places have 32 places is a fact of the types and stands apart, in `Shaped`.
 use mathlib.Core.Path.{_≡_}
 use mathlib.Core.Logic.{_↔_, _≢_}
 use mathlib.Core.Bool.{Bool, true, false, not, cond, _&&_, _||_, Bool·beq}
@@ -149,8 +149,8 @@ pub record WellFormed (t : Table) : Type 0 where
   pub size : sizeInRange (t .n) ≡ true
   pub numbers : Each t (λ x h. numbersInRange (t .n) h)
   pub ipcExactly : Each t (λ x h. ipcWithRunning h)
-  pub bare : Each t (λ x h. bareUnlessDone h)
-  pub others : Each t notWithItself
+  pub bareOutcome : Each t (λ x h. bareUnlessDone h)
+  pub withOthers : Each t notWithItself
   -- "queue r holds, once each, exactly the threads with `send` set and target r"
   pub queues : (r : ℕ) → r < t .n → (s : ℕ) → occurs s (senders (at t r)) ≡ bit (ltb s (t .n) && sendsTo (at t s) r)
   -- "a lock's owner is exactly the thread whose phase holds it"

@@ -70,7 +70,7 @@ pub struct Table {
     pub threads: [Thread; 32],
 }
 
-// What making a table, begin, step, cancel, tick and report answer.
+// What every call but outcome answers: making a table, begin, step, cancel, tick, report, reading and writing a record.
 pub enum Answer {
     Refused(u8),
     Accepted,

@@ -1,4 +1,4 @@
--- Document 01, "Marked meetings": P1 to P12 as rows of a single table. `proofs/Marked` works each row out from the step rules.
+-- Document 01, "Marked meetings": P1 to P12 as rows of a single table. `proofs/Examples` works each row out from the step rules.
 use mathlib.Core.Bool.{true, false}
 use mathlib.Core.Option.{none, some}
 use mathlib.Core.List.{List, [], _∷_, _++_}
@@ -17,9 +17,9 @@ use Rattle.model.specs.Shared.{done, running, neverBegun, noReceiver, re
 use Rattle.model.specs.Threads.{Phase, idle, lock, check, release, look, phaseOf, newTable, noFlags, at, senders}
 use Rattle.model.specs.Calls.{Call, begin, step, cancel, tick, State}
 use Rattle.model.specs.Promise.{state, answer, next}
-use Rattle.model.specs.Atomic.{begins, cancels, ticksOn, rendezvous, aborts}
+use Rattle.model.specs.Atomic.{begins, cancels, ticks, rendezvous, aborts}
 use Rattle.model.specs.Linearization.{Entry}
-use Rattle.model.specs.Order.{order}
+use Rattle.model.specs.Linearized.{linearization}
 
 -- what a row shows of a thread
 pub record Seen : Type 0 where
@@ -34,10 +34,10 @@ pub record Result : Type 0 where
   pub answers : List Said
   pub threads : List Seen
   pub store : List ℕ
-  pub order : List Entry
+  pub linearization : List Entry
 
 -- the calls on a new table of n threads, with a store of sevens
-pub record MarkedRow : Type 0 where
+pub record ExampleRow : Type 0 where
   pub n : ℕ
   pub calls : List Call
   pub result : Result
@@ -57,7 +57,7 @@ unfoldable pub seen : Thread → Seen
 seen h = record { phase = phaseOf (h .phase); flags = h .flags; owner = h .owner; queue = senders h; outcome = h .outcome }
 
 -- a row worked out from the step rules
-unfoldable pub workedOut : MarkedRow → Result
+unfoldable pub workedOut : ExampleRow → Result
 workedOut row =
     let first = state (newTable (row .n)) (replicate (8 * row .n) 7) in
     let last = run first (row .calls) in
@@ -65,7 +65,7 @@ workedOut row =
       answers = answersOf first (row .calls);
       threads = upTo (row .n) (λ x. seen (at (last .table) x));
       store = last .store;
-      order = order first (row .calls);
+      linearization = linearization first (row .calls);
     }
 
 -- ---- short forms that the rows are written in
@@ -119,7 +119,7 @@ words a b rest = a ∷ b ∷ 0 ∷ 0 ∷ 0 ∷ 0 ∷ 0 ∷ 0 ∷ rest
 pub data Name : Type 0 where
   P1 P2 P3 P4 P5 P6 P7 P8-idle P8-look P9 P10 P11 P12 : Name
 
-unfoldable pub row : Name → MarkedRow
+unfoldable pub row : Name → ExampleRow
 -- P1: "N 2; 1 begins open receive, code 15; 0 begins send to 1, word 250, code 15; five steps of 0, one of 1"
 row P1 = record {
   n = 2;
@@ -128,7 +128,7 @@ row P1 = record {
     answers = replied accepted ∷ replied accepted ∷ replied moved ∷ replied moved ∷ replied moved ∷ replied moved ∷ replied moved ∷ replied moved ∷ [];
     threads = resting (codeOnly done) ∷ resting (receivedFrom 0 1) ∷ [];
     store = words 0 0 (words 250 0 []);
-    order = some (begins 1 (receiveOnly (openFor 15))) ∷ some (begins 0 (sendTo 1 (250 ∷ []) 15 Absent)) ∷ none ∷ none ∷ none ∷ some (rendezvous 0 1) ∷ none ∷ none ∷ [];
+    linearization = some (begins 1 (receiveOnly (openFor 15))) ∷ some (begins 0 (sendTo 1 (250 ∷ []) 15 Absent)) ∷ none ∷ none ∷ none ∷ some (rendezvous 0 1) ∷ none ∷ none ∷ [];
   };
 }
 -- P2: "N 2, send to 2: -2, idle"
@@ -139,7 +139,7 @@ row P2 = record {
     answers = replied accepted ∷ replied Reply.idle ∷ [];
     threads = resting (codeOnly noReceiver) ∷ resting (codeOnly neverBegun) ∷ [];
     store = words 0 0 (untouched []);
-    order = some (begins 0 (sendTo 2 (250 ∷ []) 15 Absent)) ∷ none ∷ [];
+    linearization = some (begins 0 (sendTo 2 (250 ∷ []) 15 Absent)) ∷ none ∷ [];
   };
 }
 -- P3: "send code 0 to an idle thread; lock, check: -4"
@@ -150,7 +150,7 @@ row P3 = record {
     answers = replied accepted ∷ replied moved ∷ replied moved ∷ [];
     threads = thread release noFlags nobody [] (codeOnly sendTimeOver) ∷ thread idle noFlags 0 [] (codeOnly neverBegun) ∷ [];
     store = words 0 0 (untouched []);
-    order = some (begins 0 (sendTo 1 (250 ∷ []) 0 Absent)) ∷ none ∷ some (aborts 0 sendTimeOver) ∷ [];
+    linearization = some (begins 0 (sendTo 1 (250 ∷ []) 0 Absent)) ∷ none ∷ some (aborts 0 sendTimeOver) ∷ [];
   };
 }
 -- P4: "open receive code 0, empty queue, look: -3"
@@ -161,7 +161,7 @@ row P4 = record {
     answers = replied accepted ∷ replied moved ∷ [];
     threads = resting (codeOnly receiveTimeOver) ∷ resting (codeOnly neverBegun) ∷ [];
     store = words 0 0 (untouched []);
-    order = some (begins 0 (receiveOnly (openFor 0))) ∷ some (aborts 0 receiveTimeOver) ∷ [];
+    linearization = some (begins 0 (receiveOnly (openFor 0))) ∷ some (aborts 0 receiveTimeOver) ∷ [];
   };
 }
 -- P5: "N 3, 0 closed on 1; 2 sends to 0, code 0: -4, 0 still running"
@@ -172,7 +172,7 @@ row P5 = record {
     answers = replied accepted ∷ replied accepted ∷ replied moved ∷ replied moved ∷ [];
     threads = thread look (flags 1 0 1 0 0) 2 [] (codeOnly running) ∷ resting (codeOnly neverBegun) ∷ thread release noFlags nobody [] (codeOnly sendTimeOver) ∷ [];
     store = words 0 0 (untouched (words 0 0 []));
-    order = some (begins 0 (receiveOnly (closedFor 1 15))) ∷ some (begins 2 (sendTo 0 (5 ∷ []) 0 Absent)) ∷ none ∷ some (aborts 2 sendTimeOver) ∷ [];
+    linearization = some (begins 0 (receiveOnly (closedFor 1 15))) ∷ some (begins 2 (sendTo 0 (5 ∷ []) 0 Absent)) ∷ none ∷ some (aborts 2 sendTimeOver) ∷ [];
   };
 }
 -- P6: "sender asleep, cancel, three steps: -6"
@@ -183,7 +183,7 @@ row P6 = record {
     answers = replied accepted ∷ replied moved ∷ replied moved ∷ replied moved ∷ replied asleep ∷ replied marked ∷ replied moved ∷ replied moved ∷ replied moved ∷ [];
     threads = thread release noFlags nobody [] (codeOnly sendCancelled) ∷ thread idle noFlags 0 [] (codeOnly neverBegun) ∷ [];
     store = words 0 0 (untouched []);
-    order = some (begins 0 (sendTo 1 (5 ∷ []) 15 Absent)) ∷ none ∷ none ∷ none ∷ none ∷ some (cancels 0) ∷ none ∷ none ∷ some (aborts 0 sendCancelled) ∷ [];
+    linearization = some (begins 0 (sendTo 1 (5 ∷ []) 15 Absent)) ∷ none ∷ none ∷ none ∷ none ∷ some (cancels 0) ∷ none ∷ none ∷ some (aborts 0 sendCancelled) ∷ [];
   };
 }
 -- P7: "waiting receiver, cancel, step: -5"
@@ -194,7 +194,7 @@ row P7 = record {
     answers = replied accepted ∷ replied asleep ∷ replied marked ∷ replied moved ∷ [];
     threads = resting (codeOnly receiveCancelled) ∷ resting (codeOnly neverBegun) ∷ [];
     store = words 0 0 (untouched []);
-    order = some (begins 0 (receiveOnly (openFor 15))) ∷ none ∷ some (cancels 0) ∷ some (aborts 0 receiveCancelled) ∷ [];
+    linearization = some (begins 0 (receiveOnly (openFor 15))) ∷ none ∷ some (cancels 0) ∷ some (aborts 0 receiveCancelled) ∷ [];
   };
 }
 -- P8: "0 owns 1's lock: step of 1 answers held, cancel of 1 returns 4", and so does begin; 1 is idle
@@ -205,7 +205,7 @@ row P8-idle = record {
     answers = replied accepted ∷ replied moved ∷ replied held ∷ refused 4 ∷ refused 4 ∷ [];
     threads = thread check (flags 1 1 0 1 0) nobody [] (codeOnly running) ∷ thread idle noFlags 0 (0 ∷ []) (codeOnly neverBegun) ∷ [];
     store = words 0 0 (untouched []);
-    order = some (begins 0 (sendTo 1 [] 15 Absent)) ∷ none ∷ none ∷ none ∷ none ∷ [];
+    linearization = some (begins 0 (sendTo 1 [] 15 Absent)) ∷ none ∷ none ∷ none ∷ none ∷ [];
   };
 }
 -- P8 again, with 1 in look
@@ -216,7 +216,7 @@ row P8-look = record {
     answers = replied accepted ∷ replied accepted ∷ replied moved ∷ replied held ∷ refused 4 ∷ [];
     threads = thread check (flags 1 1 0 1 0) nobody [] (codeOnly running) ∷ thread look (flags 1 0 1 0 0) 0 (0 ∷ []) (codeOnly running) ∷ [];
     store = words 0 0 (words 0 0 []);
-    order = some (begins 1 (receiveOnly (openFor 15))) ∷ some (begins 0 (sendTo 1 [] 15 Absent)) ∷ none ∷ none ∷ none ∷ [];
+    linearization = some (begins 1 (receiveOnly (openFor 15))) ∷ some (begins 0 (sendTo 1 [] 15 Absent)) ∷ none ∷ none ∷ none ∷ [];
   };
 }
 -- P9: "0 then 2 queue at open receiver 1; only 2 steps: 2 delivers"
@@ -227,7 +227,7 @@ row P9 = record {
     answers = replied accepted ∷ replied accepted ∷ replied accepted ∷ replied moved ∷ replied moved ∷ replied moved ∷ replied moved ∷ [];
     threads = thread lock (flags 1 1 0 0 0) nobody [] (codeOnly running) ∷ thread look noFlags 2 (0 ∷ []) (receivedFrom 2 1) ∷ thread release noFlags nobody [] (codeOnly done) ∷ [];
     store = words 0 0 (words 6 0 (words 0 0 []));
-    order =
+    linearization =
         some (begins 1 (receiveOnly (openFor 15))) ∷ some (begins 0 (sendTo 1 (5 ∷ []) 15 Absent)) ∷ some (begins 2 (sendTo 1 (6 ∷ []) 15 Absent))
         ∷ none ∷ none ∷ none ∷ some (rendezvous 2 1) ∷ [];
   };
@@ -242,7 +242,7 @@ row P10 = record {
     answers = replied accepted ∷ replied accepted ∷ replied moved ∷ replied moved ∷ replied moved ∷ replied moved ∷ replied moved ∷ replied moved ∷ replied accepted ∷ replied moved ∷ replied moved ∷ replied moved ∷ replied moved ∷ replied moved ∷ [];
     threads = thread look noFlags 1 [] (receivedFrom 1 2) ∷ thread release noFlags nobody [] (codeOnly done) ∷ [];
     store = words 6 7 (words 0 0 []);
-    order =
+    linearization =
         some (begins 1 (receiveOnly (openFor 15))) ∷ some (begins 0 (sendTo 1 (5 ∷ []) 15 (closedFor 1 15)))
         ∷ none ∷ none ∷ none ∷ some (rendezvous 0 1) ∷ none ∷ none
         ∷ some (begins 1 (sendTo 0 (6 ∷ 7 ∷ []) 0 Absent)) ∷ none ∷ none ∷ none ∷ none ∷ some (rendezvous 1 0) ∷ [];
@@ -256,7 +256,7 @@ row P11 = record {
     answers = replied accepted ∷ replied accepted ∷ replied moved ∷ replied moved ∷ replied moved ∷ replied moved ∷ [];
     threads = resting (codeOnly done) ∷ thread look noFlags nobody [] (receivedFrom 0 0) ∷ [];
     store = words 0 0 (words 0 0 []);
-    order = some (begins 1 (receiveOnly (openFor 15))) ∷ some (begins 0 (sendTo 1 [] 15 Absent)) ∷ none ∷ none ∷ some (rendezvous 0 1) ∷ none ∷ [];
+    linearization = some (begins 1 (receiveOnly (openFor 15))) ∷ some (begins 0 (sendTo 1 [] 15 Absent)) ∷ none ∷ none ∷ some (rendezvous 0 1) ∷ none ∷ [];
   };
 }
 -- P12: "send code 1, asleep, tick, three steps: -4"
@@ -267,6 +267,6 @@ row P12 = record {
     answers = replied accepted ∷ replied moved ∷ replied moved ∷ replied moved ∷ replied asleep ∷ replied accepted ∷ replied moved ∷ replied moved ∷ replied moved ∷ [];
     threads = thread release noFlags nobody [] (codeOnly sendTimeOver) ∷ thread idle noFlags 0 [] (codeOnly neverBegun) ∷ [];
     store = words 0 0 (untouched []);
-    order = some (begins 0 (sendTo 1 (5 ∷ []) 1 Absent)) ∷ none ∷ none ∷ none ∷ none ∷ some ticksOn ∷ none ∷ none ∷ some (aborts 0 sendTimeOver) ∷ [];
+    linearization = some (begins 0 (sendTo 1 (5 ∷ []) 1 Absent)) ∷ none ∷ none ∷ none ∷ none ∷ some ticks ∷ none ∷ none ∷ some (aborts 0 sendTimeOver) ∷ [];
   };
 }

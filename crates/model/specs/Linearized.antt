@@ -1,4 +1,4 @@
--- The order of a trace as a function: a rendezvous stands at the step that finishes a copy, -6 and -4 at check, -5 and -3 at look.
+-- The linearization of a trace as a function: a rendezvous stands at the step that finishes a copy, -6 and -4 at check, -5 and -3 at look.
 use mathlib.Core.Option.{none, some}
 use mathlib.Core.List.{List, [], _∷_}
 use Prim.Native.Nat.{ℕ}
@@ -8,7 +8,7 @@ use Rattle.model.specs.Step.{Action, stay, takeLock, abortSend, startCop
 use Rattle.model.specs.Calls.{Call, begin, step, cancel, tick, State}
 use Rattle.model.specs.Refusals.{unless, refusal}
 use Rattle.model.specs.Promise.{next}
-use Rattle.model.specs.Atomic.{begins, cancels, ticksOn, rendezvous, aborts}
+use Rattle.model.specs.Atomic.{begins, cancels, ticks, rendezvous, aborts}
 use Rattle.model.specs.Linearization.{Entry}
 
 -- the event of an action of thread x, which was h
@@ -34,13 +34,13 @@ unfoldable pub acceptedEntry : Call → State → Entry
 acceptedEntry (begin x o) s = some (begins x o)
 acceptedEntry (step x) s = eventOf (decide (s .table) x) x (at (s .table) x)
 acceptedEntry (cancel x) s = some (cancels x)
-acceptedEntry tick s = some ticksOn
+acceptedEntry tick s = some ticks
 
 -- the entry at a call's place
 unfoldable pub entry : Call → State → Entry
 entry c s = unless (refusal c s) (λ g. none) (acceptedEntry c s)
 
--- the order of some calls from a state
-unfoldable pub order : State → List Call → List Entry
-order s [] = []
-order s (c ∷ cs) = let after = next c s in entry c s ∷ order after cs
+-- the linearization of some calls from a state
+unfoldable pub linearization : State → List Call → List Entry
+linearization s [] = []
+linearization s (c ∷ cs) = let after = next c s in entry c s ∷ linearization after cs
