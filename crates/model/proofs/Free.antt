@@ -19,12 +19,15 @@ use Rattle.model.specs.Refusals.{unless, makeRefusal}
 use Rattle.model.specs.Promise.{madeTable}
 use Rattle.model.specs.Schedule.{decodeRefusal, decode}
 
--- what an ending can leave as it was: the operation, `left`, and the two numbers that belong to other phases
-pub record Keeps (before after : Thread) : Type 0 where
-  pub operation : after .op ≡ before .op
-  pub left : after .left ≡ before .left
-  pub copied : after .copied ≡ before .copied
-  pub waking : after .waking ≡ before .waking
+-- what an ending leaves as it was: the operation, `left`, and the two numbers that belong to other phases
+pub record Rest : Type 0 where
+  pub operation : Operation
+  pub left : ℕ
+  pub copied : ℕ
+  pub waking : ℕ
+
+abbrev pub rest : Thread → Rest
+rest h = record { operation = h .op; left = h .left; copied = h .copied; waking = h .waking }
 
 -- 1. the table where none is made: one of no thread
 pub unmade : (n g : ℕ) → makeRefusal n ≡ suc g → madeTable n ≡ newTable 0
@@ -41,28 +44,28 @@ pub beyond : (x : ℕ) (o : Operation) (t : Table) → targetBeyond (t .n) o ≡
 unfolding beginTable
 beyond x o t e = rw e refl
 
-pub after-beyond : (h : Thread) → Keeps h (ended (codeOnly noReceiver) h)
-after-beyond h = record { operation = refl; left = refl; copied = refl; waking = refl }
+pub after-beyond : (h : Thread) → rest (ended (codeOnly noReceiver) h) ≡ rest h
+after-beyond h = refl
 
 -- 4. after a completed send: the operation and `left` stay as they were
-pub after-send : (h : Thread) → Keeps h (ownAfter finishSend h)
+pub after-send : (h : Thread) → rest (ownAfter finishSend h) ≡ rest h
 unfolding ownAfter
-after-send h = record { operation = refl; left = refl; copied = refl; waking = refl }
+after-send h = refl
 
 -- 5. after -5 and -3: the same
-pub after-wait : (c : ℤ) (h : Thread) → Keeps h (ownAfter (abortReceive c) h)
+pub after-wait : (c : ℤ) (h : Thread) → rest (ownAfter (abortReceive c) h) ≡ rest h
 unfolding ownAfter
-after-wait c h = record { operation = refl; left = refl; copied = refl; waking = refl }
+after-wait c h = refl
 
 -- 6. after a completed receive: the same, whatever phase the receiver is in
-pub after-receive : (x : ℕ) (h r : Thread) → Keeps r (received x h r)
+pub after-receive : (x : ℕ) (h r : Thread) → rest (received x h r) ≡ rest r
 unfolding received departed
-after-receive x h r = record { operation = refl; left = refl; copied = refl; waking = refl }
+after-receive x h r = refl
 
 -- 7. after -6 and -4: the same but for the receive part, which document 01 drops
-pub after-abort : (c : ℤ) (h : Thread) → (ownAfter (abortSend c) h .op .send ≡ h .op .send) × Keeps (withoutReceive h) (ownAfter (abortSend c) h)
+pub after-abort : (c : ℤ) (h : Thread) → rest (ownAfter (abortSend c) h) ≡ rest (withoutReceive h)
 unfolding ownAfter
-after-abort c h = (refl, record { operation = refl; left = refl; copied = refl; waking = refl })
+after-abort c h = refl
 
 -- 8. a call past its send part: the send part stays stored
 pub after-first-part : (h : Thread) → ownAfter finishCall h .op ≡ h .op

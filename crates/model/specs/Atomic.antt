@@ -43,6 +43,7 @@ pub data Event : Type 0 where
   aborts : ℕ → ℤ → Event
 
 -- ---- what an event does
+-- an operation runs
 abbrev pub runs : Run → Bool
 runs nothing = false
 runs (sending o) = true

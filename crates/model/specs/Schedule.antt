@@ -123,16 +123,16 @@ lawful first bytes = allOf (
     ∷ []
     )
 
--- lawful records one after the other, the first of them told so; "a lawful schedule has at least its table record"
-abbrev pub AllLawful : Bool → List (List ℕ) → Type 0
-AllLawful first [] = first ≡ false
-AllLawful first (bytes ∷ rest) = (lawful first bytes ≡ true) × AllLawful false rest
+-- records in a row that pass a test, the first of them told that it is the first; "a lawful schedule has at least its table record"
+abbrev pub AllLawful : {A : Type 0} → (Bool → A → Bool) → Bool → List A → Type 0
+AllLawful test first [] = first ≡ false
+AllLawful test first (r ∷ rest) = (test first r ≡ true) × AllLawful test false rest
 
 -- the bytes of a lawful schedule
 pub record LawfulSchedule (bytes : List ℕ) : Type 0 where
   pub records : List (List ℕ)
   pub whole : bytes ≡ concat records
-  pub lawfully : AllLawful true records
+  pub lawfully : AllLawful lawful true records
 
 -- ---- reading one record, told whether it is the first
 -- the receive part of a begin
@@ -227,10 +227,9 @@ allZero (a ∷ l) = eqb a 0 && allZero l
 unfoldable pub lawfulRecord : Bool → Record → Bool
 lawfulRecord first r = allOf (lawful first (encode r) ∷ implies (not (eqb (r .kind) beginKind)) (allZero (operationBytes (r .op))) ∷ [])
 
--- lawful records in a row, the first of them told so
-abbrev pub LawfulRecords : Bool → List Record → Type 0
-LawfulRecords first [] = first ≡ false
-LawfulRecords first (r ∷ rest) = (lawfulRecord first r ≡ true) × LawfulRecords false rest
+-- the records of a lawful schedule
+abbrev pub LawfulRecords : List Record → Type 0
+LawfulRecords records = AllLawful lawfulRecord true records
 
 -- "in writing, record unlawful or the lent run shorter than it"
 unfoldable pub unwritable : Bool → Record → List ℕ → Row
