@@ -1,0 +1,85 @@
+-- Laws of functions changed at one place, of lists read and searched, and of tests. None is about messages.
+use mathlib.Core.Path.{_≡_, refl, sym, ap, _∙_, subst}
+use mathlib.Core.Logic.{_≢_}
+use mathlib.Core.Bool.{Bool, true, false, not, cond, _&&_, _||_}
+use mathlib.Core.Option.{Option, none, some}
+use mathlib.Core.List.{List, [], _∷_, _++_}
+use Prim.Native.Nat.{ℕ, zero, suc, _+_, _-_, _≤_, _<_}
+use native.Mathlib.Omega.{arith}
+use lib.ListN.{length, getD, getElem?}
+use lib.Dec.{eqb}
+use borrow.Author.Tests.{eqb-true, eqb-false, eq-eqb, ne-eqb}
+use Rattle.model.specs.Lists.{bit, occurs, without, placeWhere, update}
+use Rattle.model.proofs.Laws.{by, same?}
+
+-- ---- a function with another value at one place
+module _ {ℓ} {A : Type ℓ} where
+  -- at that place it has the new value
+  pub update-same : (f : ℕ → A) (x : ℕ) (v : A) → update f x v x ≡ v
+  unfolding update
+  update-same f x v = rw (eq-eqb x x refl)
+
+  -- and elsewhere its own
+  pub update-other : (f : ℕ → A) (x : ℕ) (v : A) (y : ℕ) → y ≢ x → update f x v y ≡ f y
+  unfolding update
+  update-other f x v y h = rw (ne-eqb y x h)
+
+-- ---- tests
+-- a test or a true one
+pub or-true : (b : Bool) → (b || true) ≡ true
+or-true true = refl
+or-true false = refl
+
+-- where neither of two tests holds, the first does not
+pub or-left : (a b : Bool) → (a || b) ≡ false → a ≡ false
+or-left true b e = e
+or-left false b e = refl
+
+-- nor the second
+pub or-right : (a b : Bool) → (a || b) ≡ false → b ≡ false
+or-right true b e = cc
+or-right false b e = e
+
+-- ---- how often a number stands in a list
+-- a bit is at most 1
+pub bit-small : (b : Bool) → bit b ≤ 1
+bit-small true = omega arith
+bit-small false = omega arith
+
+-- a list that has s has one number less without it
+pub length-one-less : (s : ℕ) (q : List ℕ) → 1 ≤ occurs s q → length (without s q) ≡ length q - 1
+unfolding occurs without
+length-one-less s [] h = omega arith
+length-one-less s (a ∷ q) h = by (eqb a s) (λ e. rw e (omega arith)) (λ e. simp e (grow (length-one-less s q (h′ e)) (some-in q (h′ e))))
+  where
+    some-in : (q : List ℕ) → 1 ≤ occurs s q → 1 ≤ length q
+    some-in [] h = omega arith
+    some-in (a ∷ q) h = omega arith
+
+    h′ : eqb a s ≡ false → 1 ≤ occurs s q
+    h′ e = let k : 1 ≤ bit false + occurs s q = rw e at h in omega arith
+
+    grow : length (without s q) ≡ length q - 1 → 1 ≤ length q → suc (length (without s q)) ≡ suc (length q) - 1
+    grow e l = omega arith
+
+-- ---- the first number of a list at which f holds
+-- what is found stands in the list, and f holds at it
+pub found : (f : ℕ → Bool) (q : List ℕ) (s : ℕ) → getElem? q (placeWhere f q) ≡ some s → (f s ≡ true) × (1 ≤ occurs s q)
+unfolding placeWhere occurs
+found f [] s e = let z : _≡_ {A = ℕ} 0 1 = cc in absurd (omega arith)
+found f (a ∷ q) s e =
+    by (f a)
+    (λ d. let k : some a ≡ some s = rw d at e in let i : a ≡ s = cc in (cc, simp (eq-eqb a s i) (omega arith)))
+    (λ d. let k : getElem? q (placeWhere f q) ≡ some s = rw d at e in let r = found f q s k in (r .0, omega (arith, r .1)))
+
+-- where none is found, f holds at no number of the list
+pub none-found : (f : ℕ → Bool) (q : List ℕ) (s : ℕ) → getElem? q (placeWhere f q) ≡ none → 1 ≤ occurs s q → f s ≡ false
+unfolding placeWhere occurs
+none-found f [] s e h = absurd (omega arith)
+none-found f (a ∷ q) s e h =
+    by (f a)
+    (λ d. let k : some a ≡ none = rw d at e in let z : _≡_ {A = ℕ} 0 1 = cc in absurd (omega arith))
+    (λ d. let k : getElem? q (placeWhere f q) ≡ none = rw d at e in
+    by (eqb a s)
+    (λ i. let j : a ≡ s = eqb-true a s i in cc)
+    (λ i. let l : 1 ≤ bit false + occurs s q = rw i at h in none-found f q s k (omega arith)))
