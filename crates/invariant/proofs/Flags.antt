@@ -1,0 +1,101 @@
+-- The clauses on a thread's phase and flags as one test. There are few flags and phases, so what follows from it is computed.
+use mathlib.Core.Path.{_≡_, refl}
+use mathlib.Core.Bool.{Bool, true, false, not, _&&_, _||_, Bool·beq}
+use mathlib.Core.List.{List, [], _∷_}
+use Prim.Native.Nat.{ℕ, suc, _≤_}
+use native.Mathlib.Omega.{arith}
+use lib.Dec.{eqb, leb}
+use borrow.Author.Tests.{leb-true}
+use Rattle.model.specs.declared.Flags.{Flags}
+use Rattle.model.specs.declared.Thread.{Thread}
+use Rattle.model.specs.Lists.{implies, allOf, allBelow}
+use Rattle.model.specs.Shared.{hasReceive}
+use Rattle.model.specs.Threads.{Phase, idle, lock, check, copy, release, sleep, look, wake, unlock, phaseNumber}
+use Rattle.model.proofs.Laws.{and-left, and-right, implies-read, all-of-read, all-below-read}
+
+-- the number k is that of one of these phases
+unfoldable pub isOneOf : List Phase → ℕ → Bool
+isOneOf [] k = false
+isOneOf (p ∷ ps) k = eqb k (phaseNumber p) || isOneOf ps k
+
+-- phase k and the flags v go together, in an operation with a receive part and a send part or without
+unfoldable pub flagsFit : ℕ → Flags → Bool → Bool → Bool
+flagsFit k v receives sends = allOf (
+    leb k 8
+    ∷ implies (v .send || v .mark) (v .ipc)
+    ∷ implies (v .poll) (v .send)
+    ∷ Bool·beq (v .receiving) (v .ipc && receives)
+    ∷ implies (v .ipc && not (v .send)) receives
+    ∷ implies (isOneOf (idle ∷ []) k) (not (v .ipc || v .send || v .receiving || v .poll || v .mark))
+    ∷ implies (isOneOf (look ∷ wake ∷ unlock ∷ []) k) (not (v .send))
+    ∷ implies (isOneOf (lock ∷ check ∷ copy ∷ sleep ∷ []) k) (v .send)
+    ∷ implies (v .send) sends
+    ∷ implies (isOneOf (release ∷ []) k) sends
+    ∷ []
+    )
+
+-- a thread's flags fit its phase
+abbrev pub FlagsFit : Thread → Type 0
+FlagsFit h = flagsFit (h .phase) (h .flags) (hasReceive (h .op .receive)) (h .op .send .present) ≡ true
+
+-- ---- every case
+-- f holds of true and of false
+unfoldable pub both : (Bool → Bool) → Bool
+both f = f true && f false
+
+both-read : (f : Bool → Bool) → both f ≡ true → (b : Bool) → f b ≡ true
+unfolding both
+both-read f e true = and-left (f true) (f false) e
+both-read f e false = and-right (f true) (f false) e
+
+-- a test of flags, with a receive part and a send part or without
+abbrev pub FlagTest : Type 0
+FlagTest = Flags → Bool → Bool → Bool
+
+-- f holds of all flags
+unfoldable pub always : FlagTest → Bool
+always f = both (λ a. both (λ b. both (λ c. both (λ d. both (λ e. both (λ r. both (λ s.
+    f (record { ipc = a; send = b; receiving = c; poll = d; mark = e }) r s)))))))
+
+always-read : (f : FlagTest) → always f ≡ true → (v : Flags) (r s : Bool) → f v r s ≡ true
+unfolding always
+always-read f t v r s =
+    both-read _ (both-read _ (both-read _ (both-read _ (both-read _ (both-read _ (both-read _ t (v .ipc)) (v .send)) (v .receiving)) (v .poll)) (v .mark)) r) s
+
+-- opens what a proof needs to compute every case
+unfoldable pub cases : ℕ
+unfolding implies allOf allBelow isOneOf flagsFit both always
+cases = 0
+
+-- ---- what follows from fitting flags
+-- f holds of all flags that fit phase k
+abbrev pub Follows : ℕ → FlagTest → Type 0
+Follows k f = always (λ v r s. implies (flagsFit k v r s) (f v r s)) ≡ true
+
+module _ (h : Thread) (fits : FlagsFit h) where
+  -- of a thread in phase k
+  pub told : (k : ℕ) → h .phase ≡ k → (f : FlagTest) → Follows k f → f (h .flags) (hasReceive (h .op .receive)) (h .op .send .present) ≡ true
+  told k p f t = implies-read (flagsFit k (h .flags) (hasReceive (h .op .receive)) (h .op .send .present)) _
+      (always-read (λ v r s. implies (flagsFit k v r s) (f v r s)) t (h .flags) (hasReceive (h .op .receive)) (h .op .send .present))
+      (rw p at fits)
+
+  -- where g holds of its flags too
+  pub told-if : (k : ℕ) → h .phase ≡ k → (g f : FlagTest) → Follows k (λ v r s. implies (g v r s) (f v r s))
+      → g (h .flags) (hasReceive (h .op .receive)) (h .op .send .present) ≡ true → f (h .flags) (hasReceive (h .op .receive)) (h .op .send .present) ≡ true
+  told-if k p g f t e = implies-read _ _ (told k p (λ v r s. implies (g v r s) (f v r s)) t) e
+
+  -- no phase has a number above 8
+  pub phase-small : h .phase ≤ 8
+  unfolding flagsFit
+  phase-small = leb-true (h .phase) 8 (all-of-read _ fits .0)
+
+  -- of a thread in any phase
+  pub told-any : (f : ℕ → FlagTest) → allBelow 9 (λ k. always (λ v r s. implies (flagsFit k v r s) (f k v r s))) ≡ true
+      → f (h .phase) (h .flags) (hasReceive (h .op .receive)) (h .op .send .present) ≡ true
+  told-any f t = let small = phase-small in
+      told (h .phase) refl (f (h .phase)) (all-below-read 9 (λ k. always (λ v r s. implies (flagsFit k v r s) (f k v r s))) t (h .phase) (omega arith))
+
+  -- where g holds of its flags too
+  pub told-any-if : (g f : ℕ → FlagTest) → allBelow 9 (λ k. always (λ v r s. implies (flagsFit k v r s) (implies (g k v r s) (f k v r s)))) ≡ true
+      → g (h .phase) (h .flags) (hasReceive (h .op .receive)) (h .op .send .present) ≡ true → f (h .phase) (h .flags) (hasReceive (h .op .receive)) (h .op .send .present) ≡ true
+  told-any-if g f t e = implies-read _ _ (told-any (λ k v r s. implies (g k v r s) (f k v r s)) t) e

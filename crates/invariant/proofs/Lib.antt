@@ -1,0 +1,9 @@
+pub mod Flags
+pub mod Own
+pub mod Facts
+pub mod Globals
+pub mod Formed
+pub mod Changes
+pub mod Neighbours
+pub mod Moves
+pub mod New

@@ -1,0 +1,147 @@
+-- What well-formed threads tell of one another: who holds a lock, who copies to whom, who waits in a queue.
+use mathlib.Core.Path.{_≡_, refl, sym, ap, _∙_}
+use mathlib.Core.Logic.{_≢_}
+use mathlib.Core.Bool.{Bool, true, false, not, cond, _&&_}
+use mathlib.Core.List.{[], _∷_}
+use Prim.Native.Nat.{ℕ, _+_, _≤_, _<_}
+use native.Mathlib.Omega.{arith}
+use lib.ListN.{length}
+use lib.Dec.{eqb, ltb}
+use borrow.Author.Tests.{eqb-true, eqb-false, eq-eqb, ne-eqb, ltb-true, lt-ltb, le-ltb, not-true}
+use Rattle.model.specs.declared.Thread.{Thread}
+use Rattle.model.specs.Lists.{implies, bit, occurs}
+use Rattle.model.specs.Shared.{nobody}
+use Rattle.model.specs.Threads.{Phase, lock, check, copy, release, look, wake, unlock, phaseOf, phaseNumber, senders, ready, lockHeldIn, lockHeld}
+use Rattle.model.specs.WellFormed.{sendsTo}
+use Rattle.model.proofs.Laws.{by, same?, and-left, and-right, implies-read, all-of-read, few-enough}
+use Rattle.laws.proofs.Lists.{bit-small}
+use Rattle.laws.proofs.Phases.{phase-number, lock-held-in}
+use Rattle.laws.proofs.Queues.{senders-length}
+use Rattle.invariant.proofs.Flags.{cases, FlagTest, Follows, isOneOf, told, told-if, told-any, phase-small}
+use Rattle.invariant.proofs.Own.{phaseFits, Own}
+use Rattle.invariant.proofs.Facts.{Other, target-other, queue-small, target-below, woken-below}
+use Rattle.invariant.proofs.Globals.{not-own-owner}
+use Rattle.invariant.proofs.Formed.{Formed, copiesTo}
+
+-- a thread that sends, to whom it sends
+pub sends-to : (h : Thread) → h .flags .send ≡ true → (u : ℕ) → sendsTo h u ≡ eqb (h .op .send .target) u
+unfolding sendsTo
+sends-to h e u = rw e refl
+
+-- one that does not send, sends to nobody
+pub sends-nowhere : (h : Thread) → h .flags .send ≡ false → (u : ℕ) → sendsTo h u ≡ false
+unfolding sendsTo
+sends-nowhere h e u = rw e refl
+
+module _ (n : ℕ) (T : ℕ → Thread) (F : Formed n T) where
+  -- 255 is no thread of the table
+  pub few : n ≤ nobody
+  few = let l = F .few in omega arith
+
+  -- ---- a thread in a phase that is known
+  module _ (x : ℕ) (xn : x < n) (p : Phase) (e : phaseOf (T x .phase) ≡ p) where
+    -- the number of its phase
+    pub number : T x .phase ≡ phaseNumber p
+    number = phase-number (T x .phase) (phase-small (T x) (F .own x xn .flags)) p e
+
+    -- to whom it copies
+    pub copies-in : copiesTo (T x) ≡ cond (isOneOf (copy ∷ []) (phaseNumber p)) (T x .op .send .target) nobody
+    unfolding copiesTo
+    copies-in = ap (λ (k : ℕ). cond (isOneOf (copy ∷ []) k) (T x .op .send .target) nobody) number
+
+    -- the lock of another thread of the table that it holds
+    pub holds-other : lockHeldIn p (T x .op .send .target) (T x .waking) < n → Other n x (lockHeldIn p (T x .op .send .target) (T x .waking))
+    holds-other below = record {
+      below = below;
+      apart = λ i. not-own-owner n few (λ r. T r .owner) (F .chains) x xn (F .owners x x xn xn .1 (lock-held-in (T x) p e ∙ i));
+    }
+
+  -- the target of a thread in check, copy or release, and the sender that is woken in wake or unlock
+  module _ (x : ℕ) (xn : x < n) where
+    sending : (p : Phase) → phaseOf (T x .phase) ≡ p → Follows (phaseNumber p) (λ v r s. v .send) → T x .flags .send ≡ true
+    sending p e t = told (T x) (F .own x xn .flags) (phaseNumber p) (number x xn p e) (λ v r s. v .send) t
+
+    -- lock
+    pub sends-in-lock : phaseOf (T x .phase) ≡ lock → T x .flags .send ≡ true
+    unfolding cases
+    sends-in-lock e = sending lock e refl
+
+    -- check
+    pub sends-in-check : phaseOf (T x .phase) ≡ check → T x .flags .send ≡ true
+    unfolding cases
+    sends-in-check e = sending check e refl
+
+    -- copy
+    pub sends-in-copy : phaseOf (T x .phase) ≡ copy → T x .flags .send ≡ true
+    unfolding cases
+    sends-in-copy e = sending copy e refl
+
+    -- release
+    pub target-in-release : phaseOf (T x .phase) ≡ release → Other n x (T x .op .send .target)
+    unfolding isOneOf
+    target-in-release e = holds-other x xn release e (target-below n x (T x) (F .own x xn) (rw (number x xn release e) refl))
+
+    -- wake and unlock
+    pub woken-in-wake : phaseOf (T x .phase) ≡ wake → Other n x (T x .waking)
+    unfolding isOneOf
+    woken-in-wake e = holds-other x xn wake e (woken-below n x (T x) (F .own x xn) (rw (number x xn wake e) refl))
+
+    pub woken-in-unlock : phaseOf (T x .phase) ≡ unlock → Other n x (T x .waking)
+    unfolding isOneOf
+    woken-in-unlock e = holds-other x xn unlock e (woken-below n x (T x) (F .own x xn) (rw (number x xn unlock e) refl))
+
+  -- ---- copies
+  -- a thread that copies is in copy
+  copies-phase : (y : ℕ) → copiesTo (T y) ≢ nobody → T y .phase ≡ 3
+  unfolding copiesTo isOneOf
+  copies-phase y d = by (isOneOf (copy ∷ []) (T y .phase))
+      (λ e. same? (T y .phase) 3 (λ i. i) (λ k. absurd (d (rw (ne-eqb (T y .phase) 3 k) refl))))
+      (λ e. absurd (d (rw e refl)))
+
+  -- who copies to r owns its lock
+  pub copier : (r y : ℕ) → r < n → y < n → copiesTo (T y) ≡ r → T r .owner ≡ y
+  unfolding copiesTo phaseOf isOneOf
+  copier r y rn yn e =
+      let l = few in
+      let k : T y .phase ≡ 3 = copies-phase y (λ i. let z : r ≡ nobody = sym e ∙ i in omega arith) in
+      F .owners r y rn yn .1 (lock-held-in (T y) copy (ap phaseOf k) ∙ sym (copies-in y yn copy (ap phaseOf k)) ∙ e)
+
+  -- to a thread whose lock is free nobody copies
+  pub no-copier : (r : ℕ) → r < n → T r .owner ≡ nobody → (y : ℕ) → y < n → copiesTo (T y) ≢ r
+  no-copier r rn free y yn e = let z : nobody ≡ y = sym free ∙ copier r y rn yn e in let l = few in omega arith
+
+  -- ---- queues
+  -- who stands in x's queue sends to x
+  pub queued-sends : (x s : ℕ) → x < n → 1 ≤ occurs s (senders (T x)) → (s < n) × (sendsTo (T s) x ≡ true)
+  queued-sends x s xn there =
+      by (ltb s n && sendsTo (T s) x)
+      (λ e. (ltb-true s n (and-left (ltb s n) (sendsTo (T s) x) e), and-right (ltb s n) (sendsTo (T s) x) e))
+      (λ e. let z : occurs s (senders (T x)) ≡ bit false = F .queues x xn s ∙ ap bit e in absurd (omega arith))
+
+  -- and who sends to x stands there once
+  pub sends-queued : (x s : ℕ) → x < n → s < n → sendsTo (T s) x ≡ true → occurs s (senders (T x)) ≡ 1
+  sends-queued x s xn sn e = F .queues x xn s ∙ rw (lt-ltb s n sn, e) refl
+
+  -- a thread that sends stands in its target's queue
+  pub queued-at-target : (x : ℕ) → x < n → T x .flags .send ≡ true → 1 ≤ occurs x (senders (T (T x .op .send .target)))
+  queued-at-target x xn e =
+      let once = sends-queued (T x .op .send .target) x (target-other n x (T x) (F .own x xn) e .below) xn (sends-to (T x) e (T x .op .send .target) ∙ eq-eqb (T x .op .send .target) (T x .op .send .target) refl) in
+      omega arith
+
+  -- a queue has room for a thread that does not send
+  pub queue-room : (x r : ℕ) → x < n → r < n → T x .flags .send ≡ false → T r .queue .len < 32
+  unfolding occurs
+  queue-room x r xn rn quiet =
+      let fits = few-enough n (x ∷ senders (T r)) once out in
+      omega (arith, senders-length x (T r) (F .own r rn .items) (queue-small n r (T r) (F .own r rn)), F .few)
+    where
+      absent : occurs x (senders (T r)) ≡ 0
+      absent = F .queues r rn x ∙ rw (lt-ltb x n xn, sends-nowhere (T x) quiet r) refl
+
+      once : (s : ℕ) → bit (eqb x s) + occurs s (senders (T r)) ≤ 1
+      once s = same? s x
+          (λ e. rw (e, absent) (omega (arith, bit-small (eqb x x))))
+          (λ d. rw (ne-eqb x s (λ i. d (sym i)), F .queues r rn s) (omega (arith, bit-small (ltb s n && sendsTo (T s) r))))
+
+      out : (s : ℕ) → n ≤ s → bit (eqb x s) + occurs s (senders (T r)) ≡ 0
+      out s l = rw (ne-eqb x s (omega arith), F .queues r rn s, le-ltb s n l) refl

@@ -1,0 +1,120 @@
+-- The clauses on one thread by itself, grouped by what changes together.
+use mathlib.Core.Path.{_≡_}
+use mathlib.Core.Bool.{Bool, true, not, _&&_, _||_, Bool·beq}
+use mathlib.Core.List.{[], _∷_}
+use Prim.Native.Nat.{ℕ}
+use lib.ListN.{length}
+use lib.Dec.{eqb, leb, ltb}
+use Rattle.model.specs.declared.SendPart.{SendPart}
+use Rattle.model.specs.declared.Operation.{Operation}
+use Rattle.model.specs.declared.Queue.{Queue}
+use Rattle.model.specs.declared.Outcome.{Outcome}
+use Rattle.model.specs.declared.Thread.{Thread}
+use Rattle.model.specs.Lists.{implies, allOf}
+use Rattle.model.specs.Shared.{done, running, codes, sameCode, nobody, wordLimit, isLeft, closedOn}
+use Rattle.model.specs.Threads.{copy, release, wake, unlock}
+use Rattle.model.specs.WellFormed.{inPhase, isCode, nobodyOrBelow, sendInRange, receiveInRange, numbersInRange, ipcWithRunning, bareUnlessDone, notWithItself, sendAndMarkWithIpc, pollWithSend, receivingWithPart, ipcWithoutSend, idleWithoutFlags, releaseHasTarget, receiversSendClear, sendersSendSet}
+use Rattle.model.proofs.Laws.{_and_, all-of-read, all-of-made}
+use Rattle.invariant.proofs.Flags.{isOneOf, flagsFit, FlagsFit}
+
+-- the outcome, in a table of n threads, of a thread with `ipc` as given
+unfoldable pub outcomeFits : ℕ → Bool → Outcome → Bool
+outcomeFits n ipc u = allOf (
+    isCode codes (u .code)
+    ∷ nobodyOrBelow n (u .source)
+    ∷ leb (u .count) wordLimit
+    ∷ Bool·beq ipc (sameCode running (u .code))
+    ∷ (sameCode done (u .code) || eqb (u .source) nobody && eqb (u .count) 0)
+    ∷ []
+    )
+
+-- the operation and `left` of thread x
+unfoldable pub operationFits : ℕ → ℕ → Bool → Operation → ℕ → Bool
+operationFits n x ipc o left = allOf (
+    implies ipc (sendInRange n (o .send))
+    ∷ implies ipc (receiveInRange n (o .receive))
+    ∷ implies ipc (isLeft left)
+    ∷ implies (ipc && o .send .present) (not (eqb (o .send .target) x))
+    ∷ implies ipc (not (closedOn (o .receive) x))
+    ∷ []
+    )
+
+-- the numbers that phase k uses: the target that is freed, the words copied, the sender being woken
+unfoldable pub phaseFits : ℕ → ℕ → ℕ → SendPart → ℕ → ℕ → Bool
+phaseFits n x k part copied waking = allOf (
+    implies (isOneOf (release ∷ []) k) (ltb (part .target) n)
+    ∷ implies (isOneOf (release ∷ []) k) (not (eqb (part .target) x))
+    ∷ implies (isOneOf (copy ∷ []) k) (leb copied (part .count))
+    ∷ implies (isOneOf (wake ∷ unlock ∷ []) k) (ltb waking n)
+    ∷ []
+    )
+
+-- the queue and the lock
+unfoldable pub queueFits : ℕ → Queue → ℕ → Bool
+queueFits n queue owner = allOf (leb (queue .len) 32 ∷ nobodyOrBelow n owner ∷ [])
+
+-- thread x, which is h, is well-formed by itself
+pub record Own (n x : ℕ) (h : Thread) : Type 0 where
+  pub flags : FlagsFit h
+  pub outcome : outcomeFits n (h .flags .ipc) (h .outcome) ≡ true
+  pub operation : operationFits n x (h .flags .ipc) (h .op) (h .left) ≡ true
+  pub phase : phaseFits n x (h .phase) (h .op .send) (h .copied) (h .waking) ≡ true
+  pub queue : queueFits n (h .queue) (h .owner) ≡ true
+  pub items : length (h .queue .items) ≡ 32
+
+-- the clauses of `WellFormed` on one thread by itself
+pub record Clauses (n x : ℕ) (h : Thread) : Type 0 where
+  pub numbers : numbersInRange n h ≡ true
+  pub ipcExactly : ipcWithRunning h ≡ true
+  pub bareOutcome : bareUnlessDone h ≡ true
+  pub withOthers : notWithItself x h ≡ true
+  pub sendAndMark : sendAndMarkWithIpc h ≡ true
+  pub poll : pollWithSend h ≡ true
+  pub receiving : receivingWithPart h ≡ true
+  pub withoutSend : ipcWithoutSend h ≡ true
+  pub idleFlags : idleWithoutFlags h ≡ true
+  pub releaseTarget : releaseHasTarget n h ≡ true
+  pub sendClear : receiversSendClear h ≡ true
+  pub sendSet : sendersSendSet h ≡ true
+  pub items : length (h .queue .items) ≡ 32
+
+-- the same tests, in the one order
+pub own-read : (n x : ℕ) (h : Thread) → Clauses n x h → Own n x h
+unfolding numbersInRange ipcWithRunning bareUnlessDone notWithItself sendAndMarkWithIpc pollWithSend receivingWithPart ipcWithoutSend idleWithoutFlags releaseHasTarget receiversSendClear sendersSendSet inPhase isOneOf flagsFit outcomeFits operationFits phaseFits queueFits
+own-read n x h c =
+    let (phase, (sendRange, (receiveRange, (sendPart, (releasePart, (left, (queued, more))))))) = all-of-read _ (c .numbers) in
+    let (owner, (code, (source, (count, (copied, (waking, end)))))) = more in
+    let (target, (freed, (partner, end))) = all-of-read _ (c .withOthers) in
+    record {
+      flags = all-of-made _ (phase and c .sendAndMark and c .poll and c .receiving and c .withoutSend and c .idleFlags and c .sendClear and c .sendSet and sendPart and releasePart and tt);
+      outcome = all-of-made _ (code and source and count and c .ipcExactly and c .bareOutcome and tt);
+      operation = all-of-made _ (sendRange and receiveRange and left and target and partner and tt);
+      phase = all-of-made _ (c .releaseTarget and freed and copied and waking and tt);
+      queue = all-of-made _ (queued and owner and tt);
+      items = c .items;
+    }
+
+-- and in the other
+pub own-told : (n x : ℕ) (h : Thread) → Own n x h → Clauses n x h
+unfolding numbersInRange ipcWithRunning bareUnlessDone notWithItself sendAndMarkWithIpc pollWithSend receivingWithPart ipcWithoutSend idleWithoutFlags releaseHasTarget receiversSendClear sendersSendSet inPhase isOneOf flagsFit outcomeFits operationFits phaseFits queueFits
+own-told n x h w =
+    let (phase, (sendAndMark, (poll, (receiving, (withoutSend, (idleFlags, (sendClear, (sendSet, (sendPart, (releasePart, end)))))))))) = all-of-read _ (w .flags) in
+    let (code, (source, (count, (ipcExactly, (bareOutcome, end))))) = all-of-read _ (w .outcome) in
+    let (sendRange, (receiveRange, (left, (target, (partner, end))))) = all-of-read _ (w .operation) in
+    let (releaseTarget, (freed, (copied, (waking, end)))) = all-of-read _ (w .phase) in
+    let (queued, (owner, end)) = all-of-read _ (w .queue) in
+    record {
+      numbers = all-of-made _ (phase and sendRange and receiveRange and sendPart and releasePart and left and queued and owner and code and source and count and copied and waking and tt);
+      ipcExactly = ipcExactly;
+      bareOutcome = bareOutcome;
+      withOthers = all-of-made _ (target and freed and partner and tt);
+      sendAndMark = sendAndMark;
+      poll = poll;
+      receiving = receiving;
+      withoutSend = withoutSend;
+      idleFlags = idleFlags;
+      releaseTarget = releaseTarget;
+      sendClear = sendClear;
+      sendSet = sendSet;
+      items = w .items;
+    }

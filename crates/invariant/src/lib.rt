@@ -1,0 +1,1 @@
+// No code: every call keeps a table well-formed.

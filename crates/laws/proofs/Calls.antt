@@ -1,0 +1,105 @@
+-- What a call answers and leaves in each of its cases: refused and not, the three of begin and the two of cancel.
+use mathlib.Core.Path.{_≡_, refl, _∙_}
+use mathlib.Core.Bool.{Bool, true, false, cond, _&&_}
+use mathlib.Core.Option.{none}
+use Prim.Native.Nat.{ℕ, suc}
+use lib.Dec.{leb}
+use Rattle.model.specs.declared.Operation.{Operation}
+use Rattle.model.specs.declared.Table.{Table}
+use Rattle.model.specs.Answers.{Reply, nothingToCancel, refused, replied}
+use Rattle.model.specs.Shared.{noReceiver, codeOnly, targetBeyond}
+use Rattle.model.specs.Threads.{lock, look, at, edit, marked, ended, joined}
+use Rattle.model.specs.Calls.{begun, beginTable, cancelTable, cancelReply, Call, State, acceptedReply, acceptedState}
+use Rattle.model.specs.Refusals.{unless, refusal}
+use Rattle.model.specs.Promise.{answer, next}
+use Rattle.model.specs.Linearized.{acceptedEntry, entry}
+use Rattle.model.proofs.Free.{beyond}
+
+-- ---- every call
+module _ {ℓ} {A : Type ℓ} where
+  -- where the refusal is 0, the accepted value is returned
+  unless-accepted : (g : ℕ) (f : ℕ → A) (a : A) → g ≡ 0 → unless g f a ≡ a
+  unfolding unless
+  unless-accepted g f a e = rw e refl
+
+  -- where it is another number, what is returned of that number
+  unless-refused : (g : ℕ) (f : ℕ → A) (a : A) (k : ℕ) → g ≡ suc k → unless g f a ≡ f (suc k)
+  unfolding unless
+  unless-refused g f a k e = rw e refl
+
+  -- a choice by a test that holds is its first side
+  cond-true : (b : Bool) (a c : A) → b ≡ true → cond b a c ≡ a
+  cond-true b a c e = rw e refl
+
+  -- a choice by a test that fails is its second side
+  cond-false : (b : Bool) (a c : A) → b ≡ false → cond b a c ≡ c
+  cond-false b a c e = rw e refl
+
+module _ (c : Call) (s : State) where
+  -- an accepted call leaves its state
+  pub accepted-next : refusal c s ≡ 0 → next c s ≡ acceptedState c s
+  unfolding next
+  accepted-next e = unless-accepted (refusal c s) _ _ e
+
+  -- and gives its reply
+  pub accepted-answer : refusal c s ≡ 0 → answer c s ≡ replied (acceptedReply c s)
+  unfolding answer
+  accepted-answer e = unless-accepted (refusal c s) _ _ e
+
+  -- and its entry stands in the linearization
+  pub accepted-entry : refusal c s ≡ 0 → entry c s ≡ acceptedEntry c s
+  unfolding entry
+  accepted-entry e = unless-accepted (refusal c s) _ _ e
+
+  -- a refused call changes nothing
+  pub refused-next : (g : ℕ) → refusal c s ≡ suc g → next c s ≡ s
+  unfolding next
+  refused-next g e = unless-refused (refusal c s) _ _ g e
+
+  -- and answers the refusal
+  pub refused-answer : (g : ℕ) → refusal c s ≡ suc g → answer c s ≡ refused (suc g)
+  unfolding answer
+  refused-answer g e = unless-refused (refusal c s) _ _ g e
+
+  -- and has no event in the linearization
+  pub refused-entry : (g : ℕ) → refusal c s ≡ suc g → entry c s ≡ none
+  unfolding entry
+  refused-entry g e = unless-refused (refusal c s) _ _ g e
+
+-- ---- begin
+module _ (x : ℕ) (o : Operation) (t : Table) where
+  -- a target outside the table ends the thread with -2
+  pub target-beyond : targetBeyond (t .n) o ≡ true → beginTable x o t ≡ edit x (ended (codeOnly noReceiver)) t
+  target-beyond e = beyond x o t e
+
+  -- with a send part the thread joins its target's queue
+  pub begins-to-send : targetBeyond (t .n) o ≡ false → o .send .present ≡ true → beginTable x o t ≡ edit x (begun o lock) (edit (o .send .target) (joined x) t)
+  unfolding beginTable
+  begins-to-send near sends = cond-false (targetBeyond (t .n) o) _ _ near ∙ cond-true (o .send .present) _ _ sends
+
+  -- without one it looks for a sender
+  pub begins-to-receive : o .send .present ≡ false → beginTable x o t ≡ edit x (begun o look) t
+  unfolding beginTable targetBeyond
+  begins-to-receive alone = cond-false (o .send .present && leb (t .n) (o .send .target)) _ _ (rw alone refl) ∙ cond-false (o .send .present) _ _ alone
+
+-- ---- cancel
+module _ (x : ℕ) (t : Table) where
+  -- a cancel of a running operation sets the mark
+  pub cancel-marks : at t x .flags .ipc ≡ true → cancelTable x t ≡ edit x marked t
+  unfolding cancelTable
+  cancel-marks runs = cond-true (at t x .flags .ipc) _ _ runs
+
+  -- and says so
+  pub cancel-marks-reply : at t x .flags .ipc ≡ true → cancelReply x t ≡ Reply.marked
+  unfolding cancelReply
+  cancel-marks-reply runs = cond-true (at t x .flags .ipc) _ _ runs
+
+  -- where nothing runs it changes nothing
+  pub cancel-nothing : at t x .flags .ipc ≡ false → cancelTable x t ≡ t
+  unfolding cancelTable
+  cancel-nothing over = cond-false (at t x .flags .ipc) _ _ over
+
+  -- and says that there is nothing to cancel
+  pub cancel-nothing-reply : at t x .flags .ipc ≡ false → cancelReply x t ≡ nothingToCancel
+  unfolding cancelReply
+  cancel-nothing-reply over = cond-false (at t x .flags .ipc) _ _ over

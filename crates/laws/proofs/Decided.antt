@@ -1,0 +1,165 @@
+-- What a step has tested when it settles on an action, and which other thread the action concerns.
+use mathlib.Core.Path.{_≡_, refl, ap}
+use mathlib.Core.Logic.{_≢_, _⊎_, inl, inr}
+use mathlib.Core.Bool.{Bool, true, false, not, cond, _||_}
+use mathlib.Core.Option.{Option, none, some, Option·getD}
+use Prim.Native.Nat.{ℕ, _≤_, _<_}
+use lib.Dec.{eqb, ltb}
+use lib.IntN.{ℤ}
+use borrow.Author.Tests.{eqb-true, eqb-false, ltb-true, ltb-false}
+use Rattle.model.specs.declared.Thread.{Thread}
+use Rattle.model.specs.declared.Table.{Table}
+use Rattle.model.specs.Answers.{held}
+use Rattle.model.specs.Shared.{receiveTimeOver, sendTimeOver, receiveCancelled, sendCancelled, nobody, hasReceive}
+use Rattle.model.specs.Threads.{Phase, idle, lock, check, copy, release, sleep, look, wake, unlock, unknown, phaseOf, at, lockFree, findSender, ready}
+use Rattle.model.specs.Step.{Action, stay, takeLock, abortSend, startCopy, toRelease, copyWord, finishCall, finishSend, freeTarget, retry, toIdle, abortReceive, takeSender, clearPoll, freeSender, otherIn, other, lookAt, decideIn, decide}
+use Rattle.model.proofs.Laws.{by}
+
+-- a free lock is owned by nobody
+pub lock-free-read : (h : Thread) → lockFree h ≡ true → h .owner ≡ nobody
+unfolding lockFree
+lock-free-read h e = eqb-true (h .owner) nobody e
+
+-- ---- the other thread
+-- the thread that a step reads or changes besides its own, by the phase that the thread is known to be in
+pub other-in : (h : Thread) (p : Phase) → phaseOf (h .phase) ≡ p → other h ≡ otherIn p h
+unfolding other
+other-in h p e = ap (λ (q : Phase). otherIn q h) e
+
+-- the other thread by the action; where it is not changed and the action does not tell it, as the phase has it
+abbrev pub otherOf : Action → Thread → ℕ
+otherOf (stay a) h = other h
+otherOf takeLock h = h .op .send .target
+otherOf (abortSend c) h = h .op .send .target
+otherOf startCopy h = h .op .send .target
+otherOf toRelease h = h .op .send .target
+otherOf copyWord h = h .op .send .target
+otherOf finishCall h = h .op .send .target
+otherOf finishSend h = h .op .send .target
+otherOf (freeTarget p) h = h .op .send .target
+otherOf retry h = other h
+otherOf toIdle h = other h
+otherOf (abortReceive c) h = other h
+otherOf (takeSender s) h = s
+otherOf clearPoll h = h .waking
+otherOf freeSender h = h .waking
+
+-- ---- the tests of thread x's step
+module _ (t : Table) (x : ℕ) where
+  -- thread x is in phase p
+  abbrev pub In : Phase → Type 0
+  In p = phaseOf (at t x .phase) ≡ p
+
+  -- thread x's target
+  abbrev pub target : ℕ
+  target = at t x .op .send .target
+
+  -- why a send is aborted, by the code
+  pub data AbortsSend : ℤ → Type 0 where
+    cancelled : at t x .flags .mark ≡ true → AbortsSend sendCancelled
+    late : at t x .flags .mark ≡ false → ready (at t target) x ≡ false → at t x .left ≡ 0 → AbortsSend sendTimeOver
+
+  -- why a receive is aborted, by the code
+  pub data AbortsReceive : ℤ → Type 0 where
+    cancelled : at t x .flags .mark ≡ true → AbortsReceive receiveCancelled
+    late : at t x .flags .mark ≡ false → findSender (at t x) ≡ none → at t x .left ≡ 0 → AbortsReceive receiveTimeOver
+
+  -- why a thread goes to a phase when it has freed its target's lock
+  pub data GoesOn : Phase → Type 0 where
+    sending : at t x .flags .send ≡ true → GoesOn sleep
+    receiving : at t x .flags .send ≡ false → at t x .flags .ipc ≡ true → GoesOn look
+    ended : at t x .flags .send ≡ false → at t x .flags .ipc ≡ false → GoesOn idle
+
+  -- why a receiver takes the lock of sender s
+  pub record TakesSender (s : ℕ) : Type 0 where
+    pub running : at t x .flags .ipc ≡ true
+    pub unmarked : at t x .flags .mark ≡ false
+    pub finds : findSender (at t x) ≡ some s
+    pub polls : at t s .flags .poll ≡ true
+    pub free : at t s .owner ≡ nobody
+
+  -- for each action the tests that led to it; a step that stays changes nothing, and nothing is asked of it
+  abbrev pub Fits : Action → Type 0
+  Fits (stay a) = Unit {0}
+  Fits takeLock = In lock × (at t target .owner ≡ nobody)
+  Fits (abortSend c) = In check × AbortsSend c
+  Fits startCopy = In check × (at t x .flags .mark ≡ false) × (ready (at t target) x ≡ true)
+  Fits toRelease = In check × (at t x .flags .mark ≡ false) × (ready (at t target) x ≡ false) × (at t x .left ≢ 0)
+  Fits copyWord = In copy × (at t x .copied < at t x .op .send .count)
+  Fits finishCall = In copy × (at t x .op .send .count ≤ at t x .copied) × (hasReceive (at t x .op .receive) ≡ true)
+  Fits finishSend = In copy × (at t x .op .send .count ≤ at t x .copied) × (hasReceive (at t x .op .receive) ≡ false)
+  Fits (freeTarget p) = In release × GoesOn p
+  Fits retry = In sleep × ((not (at t x .flags .poll) || at t x .flags .mark || eqb (at t x .left) 0) ≡ true)
+  Fits toIdle = In look × (at t x .flags .ipc ≡ false)
+  Fits (abortReceive c) = In look × (at t x .flags .ipc ≡ true) × AbortsReceive c
+  Fits (takeSender s) = In look × TakesSender s
+  Fits clearPoll = In wake
+  Fits freeSender = In unlock
+
+  -- a choice by a test has been tested for what either side has
+  chosen : (b : Bool) (a c : Action) → (b ≡ true → Fits a) → (b ≡ false → Fits c) → Fits (cond b a c)
+  chosen true a c f g = f refl
+  chosen false a c f g = g refl
+
+  -- what look has tested, with what the search finds
+  looked : In look → at t x .flags .ipc ≡ true → at t x .flags .mark ≡ false → (o : Option ℕ) → findSender (at t x) ≡ o → Fits (lookAt (at t x) (at t (Option·getD o nobody)) o)
+  unfolding lookAt
+  looked p runs unmarked (some s) e =
+      chosen (at t s .flags .poll) (cond (lockFree (at t s)) (takeSender s) _) _
+      (λ i. chosen (lockFree (at t s)) (takeSender s) _ (λ j. (p, record { running = runs; unmarked = unmarked; finds = e; polls = i; free = lock-free-read (at t s) j })) (λ j. tt))
+      (λ i. tt)
+  looked p runs unmarked none e =
+      chosen (eqb (at t x .left) 0) (abortReceive receiveTimeOver) _ (λ i. (p, runs, AbortsReceive.late unmarked e (eqb-true (at t x .left) 0 i))) (λ i. tt)
+
+  -- what each phase has tested
+  decided-in : (p : Phase) → In p → Fits (decideIn p x (at t x) (at t (otherIn p (at t x))))
+  unfolding decideIn
+  decided-in idle p = tt
+  decided-in lock p = chosen (lockFree (at t target)) takeLock _ (λ i. (p, lock-free-read (at t target) i)) (λ i. tt)
+  decided-in check p =
+      chosen (at t x .flags .mark) (abortSend sendCancelled) _ (λ i. (p, AbortsSend.cancelled i)) (λ i.
+      chosen (ready (at t target) x) startCopy _ (λ j. (p, i, j)) (λ j.
+      chosen (eqb (at t x .left) 0) (abortSend sendTimeOver) toRelease (λ k. (p, AbortsSend.late i j (eqb-true (at t x .left) 0 k))) (λ k. (p, i, j, eqb-false (at t x .left) 0 k))))
+  decided-in copy p =
+      chosen (ltb (at t x .copied) (at t x .op .send .count)) copyWord _ (λ i. (p, ltb-true (at t x .copied) (at t x .op .send .count) i)) (λ i.
+      let all = ltb-false (at t x .copied) (at t x .op .send .count) i in
+      chosen (hasReceive (at t x .op .receive)) finishCall finishSend (λ j. (p, all, j)) (λ j. (p, all, j)))
+  decided-in release p =
+      chosen (at t x .flags .send) (freeTarget sleep) _ (λ i. (p, sending i)) (λ i.
+      chosen (at t x .flags .ipc) (freeTarget look) (freeTarget idle) (λ j. (p, receiving i j)) (λ j. (p, ended i j)))
+  decided-in sleep p = chosen (not (at t x .flags .poll) || at t x .flags .mark || eqb (at t x .left) 0) retry _ (λ i. (p, i)) (λ i. tt)
+  decided-in look p =
+      chosen (at t x .flags .ipc) _ toIdle (λ i.
+      chosen (at t x .flags .mark) (abortReceive receiveCancelled) _ (λ j. (p, i, AbortsReceive.cancelled j)) (λ j. looked p i j (findSender (at t x)) refl))
+      (λ i. (p, i))
+  decided-in wake p = p
+  decided-in unlock p = p
+  decided-in unknown p = tt
+
+  -- a step has tested what its action says
+  pub decided : Fits (decide t x)
+  unfolding decide other
+  decided = chosen (lockFree (at t x)) (decideIn (phaseOf (at t x .phase)) x (at t x) _) (stay held) (λ i. decided-in (phaseOf (at t x .phase)) refl) (λ i. tt)
+
+  -- a step that finds its own lock taken does nothing, so in every other the lock is free
+  pub own-lock-free : (decide t x ≡ stay held) ⊎ (lockFree (at t x) ≡ true)
+  unfolding decide
+  own-lock-free = by (lockFree (at t x)) inr (λ i. inl (rw i refl))
+
+  -- the other thread of a step is the one that its action tells
+  pub other-is : (a : Action) → Fits a → other (at t x) ≡ otherOf a (at t x)
+  other-is (stay a) f = refl
+  other-is takeLock f = other-in (at t x) lock (f .0)
+  other-is (abortSend c) f = other-in (at t x) check (f .0)
+  other-is startCopy f = other-in (at t x) check (f .0)
+  other-is toRelease f = other-in (at t x) check (f .0)
+  other-is copyWord f = other-in (at t x) copy (f .0)
+  other-is finishCall f = other-in (at t x) copy (f .0)
+  other-is finishSend f = other-in (at t x) copy (f .0)
+  other-is (freeTarget p) f = other-in (at t x) release (f .0)
+  other-is retry f = refl
+  other-is toIdle f = refl
+  other-is (abortReceive c) f = refl
+  other-is (takeSender s) f = rw (other-in (at t x) look (f .0), f .1 .finds) refl
+  other-is clearPoll f = other-in (at t x) wake f
+  other-is freeSender f = other-in (at t x) unlock f

@@ -1,0 +1,43 @@
+-- Laws of a thread's queue: what joining it and leaving it make of the waiting senders.
+use mathlib.Core.Path.{_≡_, ap, _∙_}
+use mathlib.Core.List.{[], _∷_, _++_}
+use Prim.Native.Nat.{ℕ, _+_, _-_, _≤_, _<_}
+use native.Mathlib.Numerals.{add-one}
+use native.Mathlib.Omega.{arith}
+use lib.ListN.{length, drop, length-append, length-drop, length-set}
+use lib.Seq.{length-take-le, take-at, take-suc-set}
+use Rattle.model.specs.declared.Thread.{Thread}
+use Rattle.model.specs.Lists.{occurs, without}
+use Rattle.model.specs.Threads.{senders, joined, departed}
+use Rattle.laws.proofs.Lists.{length-one-less}
+
+module _ (s : ℕ) (h : Thread) (whole : length (h .queue .items) ≡ 32) where
+  -- as many senders wait as the length says
+  pub senders-length : h .queue .len ≤ 32 → length (senders h) ≡ h .queue .len
+  unfolding senders
+  senders-length few = length-take-le (h .queue .len) (h .queue .items) (omega arith)
+
+  module _ (few : h .queue .len ≤ 32) (there : 1 ≤ occurs s (senders h)) where
+    one-less : length (without s (senders h)) ≡ h .queue .len - 1
+    one-less = length-one-less s (senders h) there ∙ ap (λ (k : ℕ). k - 1) (senders-length few)
+
+    -- a sender that leaves is gone, the others wait as before
+    pub senders-departed : senders (departed s h) ≡ without s (senders h)
+    unfolding departed senders
+    senders-departed = take-at (without s (senders h)) (drop (h .queue .len - 1) (h .queue .items)) (h .queue .len - 1) one-less
+
+    -- the array keeps its length
+    pub departed-length : length (departed s h .queue .items) ≡ 32
+    unfolding departed
+    departed-length = simp (length-append, length-drop, one-less) (omega arith)
+
+  module _ (room : h .queue .len < 32) where
+    -- a sender that joins waits behind the others
+    pub senders-joined : senders (joined s h) ≡ senders h ++ (s ∷ [])
+    unfolding joined senders
+    senders-joined = rw add-one (take-suc-set (h .queue .items) (h .queue .len) s (omega arith))
+
+    -- the array keeps its length
+    pub joined-length : length (joined s h .queue .items) ≡ 32
+    unfolding joined
+    joined-length = length-set (h .queue .items) (h .queue .len) s ∙ whole

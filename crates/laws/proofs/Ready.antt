@@ -1,0 +1,40 @@
+-- What it is for a thread to be ready for a sender.
+use mathlib.Core.Path.{_≡_, refl}
+use mathlib.Core.Bool.{Bool, true, false, not, _&&_}
+use Prim.Native.Nat.{ℕ}
+use borrow.Author.Tests.{not-true}
+use Rattle.model.specs.declared.Thread.{Thread}
+use Rattle.model.specs.Lists.{allOf}
+use Rattle.model.specs.Shared.{accepts}
+use Rattle.model.specs.Threads.{ready}
+use Rattle.model.proofs.Laws.{_and_, all-of-read, all-of-made}
+
+-- thread h is ready for s
+pub record IsReady (h : Thread) (s : ℕ) : Type 0 where
+  pub running : h .flags .ipc ≡ true
+  pub receiving : h .flags .receiving ≡ true
+  pub notSending : h .flags .send ≡ false
+  pub unmarked : h .flags .mark ≡ false
+  pub accepting : accepts (h .op .receive) s ≡ true
+
+-- a thread that passes the test is ready
+pub ready-read : (h : Thread) (s : ℕ) → ready h s ≡ true → IsReady h s
+unfolding ready
+ready-read h s e =
+    let (running, (receiving, (notSending, (unmarked, (accepting, end))))) = all-of-read _ e in
+    record { running = running; receiving = receiving; notSending = not-true (h .flags .send) notSending; unmarked = not-true (h .flags .mark) unmarked; accepting = accepting }
+
+-- a ready thread passes the test
+pub ready-made : (h : Thread) (s : ℕ) → IsReady h s → ready h s ≡ true
+unfolding ready
+ready-made h s r = all-of-made _ (r .running and r .receiving and rw (r .notSending) refl and rw (r .unmarked) refl and r .accepting and tt)
+
+-- a thread that does not run a receive is ready for nobody
+pub not-ready : (h : Thread) → (h .flags .ipc && h .flags .receiving && not (h .flags .send)) ≡ false → (s : ℕ) → ready h s ≡ false
+unfolding ready allOf
+not-ready h e s = none (h .flags .ipc) (h .flags .receiving) (not (h .flags .send)) _ e
+  where
+    none : (a b c d : Bool) → (a && b && c) ≡ false → (a && (b && (c && d))) ≡ false
+    none true true c d e = rw e refl
+    none true false c d e = refl
+    none false b c d e = refl

@@ -1,0 +1,183 @@
+-- What a call that is not refused has been tested for.
+use mathlib.Core.Path.{_≡_, refl}
+use mathlib.Core.Logic.{_≢_}
+use mathlib.Core.Bool.{Bool, true, false, not, cond, _&&_, _||_}
+use mathlib.Core.List.{List, [], _∷_}
+use Prim.Native.Nat.{ℕ, _*_, _≤_, _<_}
+use native.Mathlib.Omega.{arith}
+use lib.ListN.{length}
+use lib.Dec.{eqb, leb, ltb}
+use borrow.Author.Tests.{ltb-true, ltb-false, leb-false, le-leb, lt-ltb, eqb-true, eqb-false, ne-eqb, not-false}
+use Rattle.model.specs.declared.Receive.{Receive}
+use Rattle.model.specs.declared.Receive.the-variants.{Absent, Open, Closed}
+use Rattle.model.specs.declared.Operation.{Operation}
+use Rattle.model.specs.declared.Thread.{Thread}
+use Rattle.model.specs.declared.Table.{Table}
+use Rattle.model.specs.Lists.{implies}
+use Rattle.model.specs.Shared.{wordLimit, isTimeCode, hasReceive, receiveTime, closedOn, firstTime, targetBeyond}
+use Rattle.model.specs.Threads.{idle, release, at, lockFree}
+use Rattle.model.specs.WellFormed.{sizeInRange, inPhase, sendInRange, receiveInRange, notWithItself, wellFormed}
+use Rattle.model.specs.Calls.{Call, begin, step, cancel, tick, State}
+use Rattle.model.specs.Refusals.{Row, firstRefusal, badSize, notWellFormed, noThread, badLength, lockOwned, notIdle, neitherPart, withItself, closedBeyond, noPartner, tooManyWords, badTime, threadAndStoreRows, rowsOf, refusal, outcomeRefusal}
+use Rattle.model.proofs.Laws.{by, and-left, and-right, implies-made, _and_, all-of-made}
+use Rattle.laws.proofs.Lists.{or-left, or-right}
+
+-- ---- a list of rows
+-- no row has number 0
+abbrev pub numbered : List Row → Bool
+numbered [] = true
+numbered (row ∷ rows) = ltb 0 (row .number) && numbered rows
+
+-- no row holds
+abbrev pub NoneHolds : List Row → Type 0
+NoneHolds [] = Unit {0}
+NoneHolds (row ∷ rows) = (row .when ≡ false) × NoneHolds rows
+
+-- where the refusal is 0, no row holds
+pub none-holds : (rows : List Row) → numbered rows ≡ true → firstRefusal rows ≡ 0 → NoneHolds rows
+unfolding firstRefusal
+none-holds [] k e = tt
+none-holds (row ∷ rows) k e =
+    by (row .when)
+    (λ i. let z : row .number ≡ 0 = rw i at e in absurd (let l : 0 < row .number = ltb-true 0 (row .number) (and-left (ltb 0 (row .number)) (numbered rows) k) in omega arith))
+    (λ i. (i, none-holds rows (and-right (ltb 0 (row .number)) (numbered rows) k) (rw i at e)))
+
+-- the rows of every call have numbers
+rows-numbered : (c : Call) (s : State) → numbered (rowsOf c s) ≡ true
+unfolding rowsOf threadAndStoreRows badSize notWellFormed noThread badLength lockOwned notIdle neitherPart withItself noPartner tooManyWords badTime
+rows-numbered (begin x o) s = refl
+rows-numbered (step x) s = refl
+rows-numbered (cancel x) s = refl
+rows-numbered tick s = refl
+
+-- of a call that is not refused no row holds
+pub accepted-rows : (c : Call) (s : State) → refusal c s ≡ 0 → NoneHolds (rowsOf c s)
+unfolding refusal
+accepted-rows c s e = none-holds (rowsOf c s) (rows-numbered c s) e
+
+-- ---- what a call that is not refused has been tested for
+-- every call: the table is well-formed
+pub record AcceptedTable (t : Table) : Type 0 where
+  pub size : sizeInRange (t .n) ≡ true
+  pub formed : wellFormed t ≡ true
+
+-- step, and the outcome call
+pub record AcceptedStep (s : State) (x : ℕ) : Type 0 where
+  pub below : x < s .table .n
+  pub store : length (s .store) ≡ 8 * s .table .n
+
+-- cancel
+pub record AcceptedCancel (s : State) (x : ℕ) : Type 0 where
+  pub below : x < s .table .n
+  pub free : lockFree (at (s .table) x) ≡ true
+
+-- begin
+pub record AcceptedBegin (s : State) (x : ℕ) (o : Operation) : Type 0 where
+  pub below : x < s .table .n
+  pub store : length (s .store) ≡ 8 * s .table .n
+  pub free : lockFree (at (s .table) x) ≡ true
+  pub inIdle : inPhase (idle ∷ []) (at (s .table) x) ≡ true
+  pub part : (o .send .present || hasReceive (o .receive)) ≡ true
+  pub otherTarget : o .send .present ≡ true → o .send .target ≢ x
+  pub otherPartner : closedOn (o .receive) x ≡ false
+  pub count : o .send .present ≡ true → o .send .count ≤ wordLimit
+  pub time : isTimeCode (firstTime o) ≡ true
+  pub sends : targetBeyond (s .table .n) o ≡ false → sendInRange (s .table .n) (o .send) ≡ true
+  pub receives : receiveInRange (s .table .n) (o .receive) ≡ true
+
+-- the first two rows are the same for every call
+first-rows : (c : Call) (s : State) → NoneHolds (rowsOf c s) → (not (sizeInRange (s .table .n)) ≡ false) × (not (wellFormed (s .table)) ≡ false)
+unfolding rowsOf threadAndStoreRows badSize notWellFormed
+first-rows (begin x o) s r = (r .0, r .1 .0)
+first-rows (step x) s r = (r .0, r .1 .0)
+first-rows (cancel x) s r = (r .0, r .1 .0)
+first-rows tick s r = (r .0, r .1 .0)
+
+-- every call that is not refused finds a well-formed table
+pub accepted-table : (c : Call) (s : State) → refusal c s ≡ 0 → AcceptedTable (s .table)
+accepted-table c s e = let (size, formed) = first-rows c s (accepted-rows c s e) in
+    record { size = not-false (sizeInRange (s .table .n)) size; formed = not-false (wellFormed (s .table)) formed }
+
+-- a step that is not refused is of a thread of the table, and the store has its words
+pub accepted-step : (x : ℕ) (s : State) → refusal (step x) s ≡ 0 → AcceptedStep s x
+unfolding rowsOf threadAndStoreRows noThread badLength
+accepted-step x s e = let (size, (formed, (below, (store, end)))) = accepted-rows (step x) s e in
+    record { below = leb-false (s .table .n) x below; store = eqb-true (length (s .store)) (8 * s .table .n) (not-false (eqb (length (s .store)) (8 * s .table .n)) store) }
+
+-- the outcome call is refused as a step is
+pub outcome-as-step : (s : State) (x : ℕ) → outcomeRefusal s x ≡ refusal (step x) s
+unfolding outcomeRefusal refusal rowsOf
+outcome-as-step s x = refl
+
+-- a cancel that is not refused is of a thread of the table, and its lock is free
+pub accepted-cancel : (x : ℕ) (s : State) → refusal (cancel x) s ≡ 0 → AcceptedCancel s x
+unfolding rowsOf noThread lockOwned
+accepted-cancel x s e = let (size, (formed, (below, (free, end)))) = accepted-rows (cancel x) s e in
+    record { below = leb-false (s .table .n) x below; free = not-false (lockFree (at (s .table) x)) free }
+
+-- where two tests do not hold together, the second fails where the first holds
+and-false : (a b : Bool) → (a && b) ≡ false → a ≡ true → b ≡ false
+and-false true b e h = e
+and-false false b e h = cc
+
+-- what f holds at where b does, and at another number, it holds at the one that b chooses
+either : (f : ℕ → Bool) (b : Bool) (k m : ℕ) → (b ≡ true → f k ≡ true) → f m ≡ true → f (cond b k m) ≡ true
+either f true k m p q = p refl
+either f false k m p q = q
+
+-- a send part whose target is in the table has its numbers in range
+send-in-range : (n : ℕ) (o : Operation) → (o .send .present ≡ true → o .send .count ≤ wordLimit) → (o .send .present ≡ true → isTimeCode (o .send .time) ≡ true)
+    → targetBeyond n o ≡ false → sendInRange n (o .send) ≡ true
+unfolding sendInRange targetBeyond
+send-in-range n o count time near = implies-made (o .send .present) _ (λ i. all-of-made _ (
+    lt-ltb (o .send .target) n (leb-false n (o .send .target) (and-false (o .send .present) (leb n (o .send .target)) near i))
+    and le-leb (o .send .count) wordLimit (count i) and time i and tt))
+
+-- the time code of a receive part is lawful, also of an absent one
+wait-time : (r : Receive) → (hasReceive r && not (isTimeCode (receiveTime r))) ≡ false → isTimeCode (receiveTime r) ≡ true
+unfolding isTimeCode
+wait-time Absent e = refl
+wait-time (Open w) e = not-false (isTimeCode (w .time)) e
+wait-time (Closed w) e = not-false (isTimeCode (w .time)) e
+
+-- a receive part with a lawful time code and a partner in the table has its numbers in range
+receive-in-range : (n : ℕ) (r : Receive) → isTimeCode (receiveTime r) ≡ true → closedBeyond n r ≡ false → receiveInRange n r ≡ true
+unfolding receiveInRange
+receive-in-range n Absent time near = refl
+receive-in-range n (Open w) time near = time
+receive-in-range n (Closed w) time near = all-of-made _ (time and lt-ltb (w .partner) n (leb-false n (w .partner) near) and tt)
+
+-- what a begin that is not refused has been tested for
+pub accepted-begin : (x : ℕ) (o : Operation) (s : State) → refusal (begin x o) s ≡ 0 → AcceptedBegin s x o
+unfolding rowsOf noThread badLength lockOwned notIdle neitherPart withItself noPartner tooManyWords badTime
+accepted-begin x o s e =
+    let (size, (formed, (below, (store, (free, (inIdle, (part, (itself, (partner, (words, (time, end))))))))))) = accepted-rows (begin x o) s e in
+    let toItself = o .send .present && eqb (o .send .target) x in
+    let badSend = o .send .present && not (isTimeCode (o .send .time)) in
+    let badWait = hasReceive (o .receive) && not (isTimeCode (receiveTime (o .receive))) in
+    let count : o .send .present ≡ true → o .send .count ≤ wordLimit = λ i. ltb-false wordLimit (o .send .count) (and-false (o .send .present) (ltb wordLimit (o .send .count)) words i) in
+    let sendTime : o .send .present ≡ true → isTimeCode (o .send .time) ≡ true
+    = λ i. not-false (isTimeCode (o .send .time)) (and-false (o .send .present) (not (isTimeCode (o .send .time))) (or-left badSend badWait time) i) in
+    let waitTime = wait-time (o .receive) (or-right badSend badWait time) in
+    record {
+      below = leb-false (s .table .n) x below;
+      store = eqb-true (length (s .store)) (8 * s .table .n) (not-false (eqb (length (s .store)) (8 * s .table .n)) store);
+      free = not-false (lockFree (at (s .table) x)) free;
+      inIdle = not-false (inPhase (idle ∷ []) (at (s .table) x)) inIdle;
+      part = not-false (o .send .present || hasReceive (o .receive)) part;
+      otherTarget = λ i. eqb-false (o .send .target) x (and-false (o .send .present) (eqb (o .send .target) x) (or-left toItself (closedOn (o .receive) x) itself) i);
+      otherPartner = or-right toItself (closedOn (o .receive) x) itself;
+      count = count;
+      time = either isTimeCode (o .send .present) _ _ sendTime waitTime;
+      sends = send-in-range (s .table .n) o count sendTime;
+      receives = receive-in-range (s .table .n) (o .receive) waitTime partner;
+    }
+
+-- a thread that is not in release, and whose operation has another thread for target and partner, has no part with itself
+pub with-others : (x : ℕ) (h : Thread) → (h .op .send .present ≡ true → h .op .send .target ≢ x) → closedOn (h .op .receive) x ≡ false → inPhase (release ∷ []) h ≡ false → notWithItself x h ≡ true
+unfolding notWithItself implies
+with-others x h target partner away = all-of-made _ (
+    implies-made (h .flags .ipc && h .op .send .present) _ (λ i. rw (ne-eqb (h .op .send .target) x (target (and-right (h .flags .ipc) (h .op .send .present) i))) refl)
+    and rw away refl
+    and implies-made (h .flags .ipc) _ (λ i. rw partner refl)
+    and tt)

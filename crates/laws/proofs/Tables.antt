@@ -1,0 +1,122 @@
+-- Laws of a table's threads: what `put`, `edit`, `editBelow` and `act` leave of them.
+use mathlib.Core.Path.{_≡_, refl, sym, ap, _∙_, fun-ext}
+use mathlib.Core.Logic.{_≢_, _⊎_, ⊎-elim}
+use mathlib.Core.List.{List}
+use Prim.Native.Nat.{ℕ, zero, suc, _≤_, _<_}
+use native.Mathlib.Omega.{arith}
+use lib.ListN.{length, length-set, set}
+use lib.Seq.{getD-set-same, getD-set-other, set-getD}
+use Rattle.model.specs.declared.Thread.{Thread}
+use Rattle.model.specs.declared.Table.{Table}
+use Rattle.model.specs.Lists.{update}
+use Rattle.model.specs.Threads.{zeroThread, at, put, edit, editBelow}
+use Rattle.model.specs.Step.{Action, other, ownAfter, otherAfter, act}
+use Rattle.model.proofs.Laws.{same?}
+use Rattle.laws.proofs.Lists.{update-same, update-other}
+
+-- ---- one thread is put into a table
+-- the number of threads in use stays
+pub put-n : (x : ℕ) (h : Thread) (t : Table) → put x h t .n ≡ t .n
+unfolding put
+put-n x h t = refl
+
+-- and so does the length of the array
+pub put-length : (x : ℕ) (h : Thread) (t : Table) → length (put x h t .threads) ≡ length (t .threads)
+unfolding put
+put-length x h t = length-set (t .threads) x h
+
+-- the thread is there
+pub put-same : (x : ℕ) (h : Thread) (t : Table) → x < length (t .threads) → at (put x h t) x ≡ h
+unfolding at put
+put-same x h t l = getD-set-same (t .threads) x h zeroThread l
+
+-- every other thread is as it was
+pub put-other : (x : ℕ) (h : Thread) (t : Table) (y : ℕ) → y ≢ x → at (put x h t) y ≡ at t y
+unfolding at put
+put-other x h t y d = getD-set-other (t .threads) x y h zeroThread d
+
+-- a thread that is put where it was changes nothing
+pub put-own : (x : ℕ) (t : Table) → put x (at t x) t ≡ t
+unfolding at put
+put-own x t = ap {B = Table} (λ (threads : List Thread). record { n = t .n; threads = threads }) (set-getD (t .threads) x zeroThread)
+
+-- all threads at once
+pub put-at : (x : ℕ) (h : Thread) (t : Table) → x < length (t .threads) → at (put x h t) ≡ update (at t) x h
+put-at x h t l = fun-ext (λ y. same? y x
+    (λ e. rw (e, put-same x h t l, update-same) refl)
+    (λ d. rw (put-other x h t y d, update-other (at t) x h y d) refl))
+
+-- ---- one thread is edited
+pub edit-at : (x : ℕ) (f : Thread → Thread) (t : Table) → x < length (t .threads) → at (edit x f t) ≡ update (at t) x (f (at t x))
+unfolding edit
+edit-at x f t l = put-at x (f (at t x)) t l
+
+-- the number of threads in use stays
+pub edit-n : (x : ℕ) (f : Thread → Thread) (t : Table) → edit x f t .n ≡ t .n
+unfolding edit
+edit-n x f t = put-n x (f (at t x)) t
+
+-- and so does the length of the array
+pub edit-length : (x : ℕ) (f : Thread → Thread) (t : Table) → length (edit x f t .threads) ≡ length (t .threads)
+unfolding edit
+edit-length x f t = put-length x (f (at t x)) t
+
+-- ---- each thread below a number is edited
+module _ (f : Thread → Thread) (t : Table) where
+  -- the number of threads in use stays
+  pub below-n : (k : ℕ) → editBelow k f t .n ≡ t .n
+  unfolding editBelow
+  below-n zero = refl
+  below-n (suc k) = edit-n k f (editBelow k f t) ∙ below-n k
+
+  -- and so does the length of the array
+  pub below-length : (k : ℕ) → length (editBelow k f t .threads) ≡ length (t .threads)
+  unfolding editBelow
+  below-length zero = refl
+  below-length (suc k) = edit-length k f (editBelow k f t) ∙ below-length k
+
+  -- a thread from that number on is as it was
+  pub below-beyond : (k y : ℕ) → k ≤ y → at (editBelow k f t) y ≡ at t y
+  unfolding editBelow edit
+  below-beyond zero y l = refl
+  below-beyond (suc k) y l = put-other k _ (editBelow k f t) y (omega arith) ∙ below-beyond k y (omega arith)
+
+  -- a thread below it is edited
+  pub below-at : (k y : ℕ) → k ≤ length (t .threads) → y < k → at (editBelow k f t) y ≡ f (at t y)
+  unfolding editBelow edit
+  below-at zero y l m = absurd (omega arith)
+  below-at (suc k) y l m = same? y k
+      (λ e. rw e (put-same k _ (editBelow k f t) (omega (arith, below-length k)) ∙ ap f (below-beyond k k (omega arith))))
+      (λ d. put-other k _ (editBelow k f t) y d ∙ below-at k y (omega arith) (omega arith))
+
+-- ---- the action of a step
+module _ (a : Action) (x : ℕ) (t : Table) where
+  abbrev otherNow : Thread
+  otherNow = otherAfter a x (at t x) (at t (other (at t x)))
+
+  -- the number of threads in use stays
+  pub act-n : act a x t .n ≡ t .n
+  unfolding act put
+  act-n = refl
+
+  -- and so does the length of the array
+  pub act-length : length (act a x t .threads) ≡ length (t .threads)
+  unfolding act
+  act-length = put-length x _ (put (other (at t x)) otherNow t) ∙ put-length (other (at t x)) otherNow t
+
+  -- the other thread is in the array, or the action leaves it as it was
+  pub act-at : x < length (t .threads) → (other (at t x) < length (t .threads)) ⊎ (otherNow ≡ at t (other (at t x)))
+      → at (act a x t) ≡ update (update (at t) (other (at t x)) otherNow) x (ownAfter a (at t x))
+  unfolding act
+  act-at l = λ o. put-at x _ (put (other (at t x)) otherNow t) (omega (arith, put-length (other (at t x)) otherNow t)) ∙ ap (λ (T : ℕ → Thread). update T x (ownAfter a (at t x))) (inner o)
+    where
+      same : at t ≡ update (at t) (other (at t x)) (at t (other (at t x)))
+      same = fun-ext (λ y. same? y (other (at t x))
+          (λ i. rw (i, update-same) refl)
+          (λ d. sym (update-other (at t) (other (at t x)) (at t (other (at t x))) y d)))
+
+      kept : otherNow ≡ at t (other (at t x)) → at (put (other (at t x)) otherNow t) ≡ update (at t) (other (at t x)) otherNow
+      kept e = ap (λ (h : Thread). at (put (other (at t x)) h t)) e ∙ ap at (put-own (other (at t x)) t) ∙ same ∙ ap (update (at t) (other (at t x))) (sym e)
+
+      inner : (other (at t x) < length (t .threads)) ⊎ (otherNow ≡ at t (other (at t x))) → at (put (other (at t x)) otherNow t) ≡ update (at t) (other (at t x)) otherNow
+      inner = ⊎-elim (put-at (other (at t x)) otherNow t) kept
