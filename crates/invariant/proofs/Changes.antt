@@ -13,11 +13,12 @@ use Rattle.model.specs.declared.Operation.{Operation}
 use Rattle.model.specs.declared.Outcome.{Outcome}
 use Rattle.model.specs.declared.Thread.{Thread}
 use Rattle.model.specs.Lists.{implies, allOf, occurs}
-use Rattle.model.specs.Shared.{done, nobody, codes, sameCode, wordLimit, codeOnly, running}
+use Rattle.model.specs.Shared.{tickCount, done, nobody, codes, sameCode, wordLimit, codeOnly, running}
 use Rattle.model.specs.Threads.{Phase, noFlags, entering, withOwner, polled, ended, senders, joined, departed, phaseNumber}
 use Rattle.model.specs.WellFormed.{isCode, nobodyOrBelow}
-use Rattle.model.proofs.Laws.{_and_, all-of-read, all-of-made}
+use Rattle.model.proofs.Laws.{implies-made, _and_, all-of-read, all-of-made}
 use Rattle.laws.proofs.Lists.{or-true}
+use Rattle.laws.proofs.Times.{left-from-code}
 use Rattle.laws.proofs.Queues.{departed-length, joined-length}
 use Rattle.invariant.proofs.Flags.{cases, isOneOf, flagsFit, FlagsFit, told-any, told-any-if}
 use Rattle.invariant.proofs.Own.{outcomeFits, operationFits, phaseFits, queueFits, Own}
@@ -33,6 +34,12 @@ owner-below n x xn = rw (lt-ltb x n xn) (or-true (eqb x nobody))
 pub operation-over : (n x : ℕ) (o : Operation) (left : ℕ) → operationFits n x false o left ≡ true
 unfolding operationFits allOf implies
 operation-over n x o left = refl
+
+-- `left` may be the ticks of any time code
+pub operation-reloaded : (n x : ℕ) (ipc : Bool) (o : Operation) (left code : ℕ) → operationFits n x ipc o left ≡ true → operationFits n x ipc o (tickCount code) ≡ true
+unfolding operationFits
+operation-reloaded n x ipc o left code e = let (sends, (receives, (time, (target, (partner, end))))) = all-of-read _ e in
+    all-of-made _ (sends and receives and implies-made ipc _ (λ i. left-from-code code) and target and partner and tt)
 
 -- in release the target is in use
 pub release-fits : (n x : ℕ) (part : SendPart) (copied waking : ℕ) → Other n x (part .target) → phaseFits n x 4 part copied waking ≡ true

@@ -15,7 +15,7 @@ use Rattle.model.specs.Shared.{nobody}
 use Rattle.model.specs.Threads.{copy, phaseOf, at, senders, ready, lockHeld}
 use Rattle.model.specs.WellFormed.{sizeInRange, inPhase, sendsTo, ownerOf, copiesToReady, Shaped, WellFormed}
 use Rattle.model.proofs.Laws.{by, same?, and-right, implies-read, implies-made}
-use Rattle.laws.proofs.Lists.{update-same, update-other}
+use Rattle.laws.proofs.Lists.{update-same, update-other, update-own}
 use Rattle.invariant.proofs.Flags.{cases, isOneOf, told-any}
 use Rattle.invariant.proofs.Own.{Own, Clauses, own-read, own-told}
 use Rattle.invariant.proofs.Facts.{Other, target-other}
@@ -181,3 +181,15 @@ module _ (T : ℕ → Thread) (x r : ℕ) (f g : Thread) where
     chains = subst (Chains n) (sym (seen o)) C;
     copies = subst₂ (Copies n) (sym (seen c)) (sym (seen d)) K;
   }
+
+-- ---- thread x alone becomes f
+module _ (T : ℕ → Thread) (x : ℕ) (f : Thread) where
+  -- the same for one thread
+  pub formed-one : (n : ℕ) → Formed n T → Own n x f
+      → (o : Change T x x f (T x) owner) (l : Change T x x f (T x) lockHeld) (s : Change T x x f (T x) sendsTo)
+      → (q : Change T x x f (T x) senders) (c : Change T x x f (T x) copiesTo) (d : Change T x x f (T x) ready)
+      → Queues n (changed T x x f (T x) s) (changed T x x f (T x) q) → Owners n (changed T x x f (T x) o) (changed T x x f (T x) l)
+      → Chains n (changed T x x f (T x) o) → Copies n (changed T x x f (T x) c) (changed T x x f (T x) d)
+      → Formed n (update T x f)
+  formed-one n F mine o l s q c d Q O C K =
+      subst (λ (before : ℕ → Thread). Formed n (update before x f)) (update-own T x) (formed-changed T x x f (T x) n F (F .own x) mine o l s q c d Q O C K)

@@ -6,4 +6,9 @@ pub mod Formed
 pub mod Changes
 pub mod Neighbours
 pub mod Moves
+pub mod Endings
+pub mod Steps
+pub mod Begins
+pub mod Frames
+pub mod Keeps
 pub mod New

@@ -35,11 +35,11 @@ module _ (n : ℕ) (T : ℕ → Thread) (F : Formed n T) (x : ℕ) (xn : x < n) 
   target = T x .op .send .target
 
   -- of x, which is in phase p, a test follows from its flags
-  in-phase : (p : Phase) → phaseOf (h .phase) ≡ p → (f : FlagTest) → Follows (phaseNumber p) f → f (h .flags) (hasReceive (h .op .receive)) (h .op .send .present) ≡ true
+  pub in-phase : (p : Phase) → phaseOf (h .phase) ≡ p → (f : FlagTest) → Follows (phaseNumber p) f → f (h .flags) (hasReceive (h .op .receive)) (h .op .send .present) ≡ true
   in-phase p e f t = told h (F .own x xn .flags) (phaseNumber p) (number n T F x xn p e) f t
 
   -- and where g holds of them too
-  in-phase-if : (p : Phase) → phaseOf (h .phase) ≡ p → (g f : FlagTest) → Follows (phaseNumber p) (λ v r s. implies (g v r s) (f v r s))
+  pub in-phase-if : (p : Phase) → phaseOf (h .phase) ≡ p → (g f : FlagTest) → Follows (phaseNumber p) (λ v r s. implies (g v r s) (f v r s))
       → g (h .flags) (hasReceive (h .op .receive)) (h .op .send .present) ≡ true → f (h .flags) (hasReceive (h .op .receive)) (h .op .send .present) ≡ true
   in-phase-if p e g f t k = told-if h (F .own x xn .flags) (phaseNumber p) (number n T F x xn p e) g f t k
 
@@ -75,7 +75,7 @@ module _ (n : ℕ) (T : ℕ → Thread) (F : Formed n T) (x : ℕ) (xn : x < n) 
       (F .queues) (taken-owners target r mine free empty) (taken-chains target r mine free empty) (F .copies)
 
   -- a sender that stands in x's queue is another thread, since x does not send in look
-  queued-other : (s : ℕ) → phaseOf (h .phase) ≡ look → 1 ≤ occurs s (senders h) → Other n x s
+  pub queued-other : (s : ℕ) → phaseOf (h .phase) ≡ look → 1 ≤ occurs s (senders h) → Other n x s
   unfolding cases
   queued-other s p queued =
       let (sn, sends) = queued-sends n T F x s xn queued in

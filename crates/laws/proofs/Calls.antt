@@ -2,7 +2,7 @@
 use mathlib.Core.Path.{_≡_, refl, _∙_}
 use mathlib.Core.Bool.{Bool, true, false, cond, _&&_}
 use mathlib.Core.Option.{none}
-use Prim.Native.Nat.{ℕ, suc}
+use Prim.Native.Nat.{ℕ, zero, suc}
 use lib.Dec.{leb}
 use Rattle.model.specs.declared.Operation.{Operation}
 use Rattle.model.specs.declared.Table.{Table}
@@ -35,7 +35,16 @@ module _ {ℓ} {A : Type ℓ} where
   cond-false : (b : Bool) (a c : A) → b ≡ false → cond b a c ≡ c
   cond-false b a c e = rw e refl
 
+-- a number is 0 or not
+zero-or-not {ℓ} : {P : Type ℓ} (k : ℕ) → (k ≡ 0 → P) → ((g : ℕ) → k ≡ suc g → P) → P
+zero-or-not zero f h = f refl
+zero-or-not (suc g) f h = h g refl
+
 module _ (c : Call) (s : State) where
+  -- a call is refused or not
+  pub accepted? {ℓ} : {P : Type ℓ} → (refusal c s ≡ 0 → P) → ((g : ℕ) → refusal c s ≡ suc g → P) → P
+  accepted? = zero-or-not (refusal c s)
+
   -- an accepted call leaves its state
   pub accepted-next : refusal c s ≡ 0 → next c s ≡ acceptedState c s
   unfolding next

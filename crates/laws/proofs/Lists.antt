@@ -1,14 +1,14 @@
 -- Laws of functions changed at one place, of lists read and searched, and of tests. None is about messages.
-use mathlib.Core.Path.{_≡_, refl, sym, ap, _∙_, subst}
+use mathlib.Core.Path.{_≡_, refl, fun-ext}
 use mathlib.Core.Logic.{_≢_}
-use mathlib.Core.Bool.{Bool, true, false, not, cond, _&&_, _||_}
-use mathlib.Core.Option.{Option, none, some}
-use mathlib.Core.List.{List, [], _∷_, _++_}
-use Prim.Native.Nat.{ℕ, zero, suc, _+_, _-_, _≤_, _<_}
+use mathlib.Core.Bool.{Bool, true, false, _||_}
+use mathlib.Core.Option.{none, some}
+use mathlib.Core.List.{List, [], _∷_}
+use Prim.Native.Nat.{ℕ, suc, _+_, _-_, _≤_}
 use native.Mathlib.Omega.{arith}
-use lib.ListN.{length, getD, getElem?}
+use lib.ListN.{length, getElem?}
 use lib.Dec.{eqb}
-use borrow.Author.Tests.{eqb-true, eqb-false, eq-eqb, ne-eqb}
+use borrow.Author.Tests.{eqb-true, eq-eqb, ne-eqb}
 use Rattle.model.specs.Lists.{bit, occurs, without, placeWhere, update}
 use Rattle.model.proofs.Laws.{by, same?}
 
@@ -23,6 +23,10 @@ module _ {ℓ} {A : Type ℓ} where
   pub update-other : (f : ℕ → A) (x : ℕ) (v : A) (y : ℕ) → y ≢ x → update f x v y ≡ f y
   unfolding update
   update-other f x v y h = rw (ne-eqb y x h)
+
+  -- its own value changes nothing
+  pub update-own : (f : ℕ → A) (x : ℕ) → update f x (f x) ≡ f
+  update-own f x = fun-ext (λ y. same? y x (λ e. rw (e, update-same f x (f x)) refl) (λ d. update-other f x (f x) y d))
 
 -- ---- tests
 -- a test or a true one

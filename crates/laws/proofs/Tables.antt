@@ -12,7 +12,7 @@ use Rattle.model.specs.Lists.{update}
 use Rattle.model.specs.Threads.{zeroThread, at, put, edit, editBelow}
 use Rattle.model.specs.Step.{Action, other, ownAfter, otherAfter, act}
 use Rattle.model.proofs.Laws.{same?}
-use Rattle.laws.proofs.Lists.{update-same, update-other}
+use Rattle.laws.proofs.Lists.{update-same, update-other, update-own}
 
 -- ---- one thread is put into a table
 -- the number of threads in use stays
@@ -47,6 +47,7 @@ put-at x h t l = fun-ext (λ y. same? y x
     (λ d. rw (put-other x h t y d, update-other (at t) x h y d) refl))
 
 -- ---- one thread is edited
+-- all threads at once
 pub edit-at : (x : ℕ) (f : Thread → Thread) (t : Table) → x < length (t .threads) → at (edit x f t) ≡ update (at t) x (f (at t x))
 unfolding edit
 edit-at x f t l = put-at x (f (at t x)) t l
@@ -60,6 +61,14 @@ edit-n x f t = put-n x (f (at t x)) t
 pub edit-length : (x : ℕ) (f : Thread → Thread) (t : Table) → length (edit x f t .threads) ≡ length (t .threads)
 unfolding edit
 edit-length x f t = put-length x (f (at t x)) t
+
+-- r is edited, and then another thread x
+pub edit-two-at : (x r : ℕ) (f g : Thread → Thread) (t : Table) → x < length (t .threads) → r < length (t .threads) → x ≢ r
+    → at (edit x f (edit r g t)) ≡ update (update (at t) r (g (at t r))) x (f (at t x))
+edit-two-at x r f g t xl rl apart =
+    edit-at x f (edit r g t) (omega (arith, edit-length r g t))
+    ∙ ap (λ (T : ℕ → Thread). update T x (f (T x))) (edit-at r g t rl)
+    ∙ ap (λ (h : Thread). update (update (at t) r (g (at t r))) x (f h)) (update-other (at t) r (g (at t r)) x apart)
 
 -- ---- each thread below a number is edited
 module _ (f : Thread → Thread) (t : Table) where
@@ -110,13 +119,8 @@ module _ (a : Action) (x : ℕ) (t : Table) where
   unfolding act
   act-at l = λ o. put-at x _ (put (other (at t x)) otherNow t) (omega (arith, put-length (other (at t x)) otherNow t)) ∙ ap (λ (T : ℕ → Thread). update T x (ownAfter a (at t x))) (inner o)
     where
-      same : at t ≡ update (at t) (other (at t x)) (at t (other (at t x)))
-      same = fun-ext (λ y. same? y (other (at t x))
-          (λ i. rw (i, update-same) refl)
-          (λ d. sym (update-other (at t) (other (at t x)) (at t (other (at t x))) y d)))
-
       kept : otherNow ≡ at t (other (at t x)) → at (put (other (at t x)) otherNow t) ≡ update (at t) (other (at t x)) otherNow
-      kept e = ap (λ (h : Thread). at (put (other (at t x)) h t)) e ∙ ap at (put-own (other (at t x)) t) ∙ same ∙ ap (update (at t) (other (at t x))) (sym e)
+      kept e = ap (λ (h : Thread). at (put (other (at t x)) h t)) e ∙ ap at (put-own (other (at t x)) t) ∙ sym (update-own (at t) (other (at t x))) ∙ ap (update (at t) (other (at t x))) (sym e)
 
       inner : (other (at t x) < length (t .threads)) ⊎ (otherNow ≡ at t (other (at t x))) → at (put (other (at t x)) otherNow t) ≡ update (at t) (other (at t x)) otherNow
       inner = ⊎-elim (put-at (other (at t x)) otherNow t) kept

@@ -1,0 +1,180 @@
+-- Begin, cancel and tick, where they are accepted, keep the threads well-formed.
+use mathlib.Core.Path.{_≡_, refl, sym, ap, _∙_, subst, fun-ext}
+use mathlib.Core.Logic.{_≢_}
+use mathlib.Core.Bool.{Bool, true, false, not, cond, _&&_}
+use mathlib.Core.List.{[], _∷_}
+use Prim.Native.Nat.{ℕ, zero, suc, _≤_, _<_}
+use native.Mathlib.Omega.{arith}
+use lib.ListN.{length}
+use lib.Dec.{eqb}
+use borrow.Author.Tests.{ne-eqb, not-true}
+use Rattle.model.specs.declared.Operation.{Operation}
+use Rattle.model.specs.declared.Thread.{Thread}
+use Rattle.model.specs.declared.Table.{Table}
+use Rattle.model.specs.Lists.{implies, allOf, update}
+use Rattle.model.specs.Shared.{noReceiver, nobody, codeOnly, running, closedOn, hasReceive, firstTime, tickCount, isLeft}
+use Rattle.model.specs.Threads.{Phase, idle, lock, look, phaseOf, phaseNumber, at, editBelow, marked, ended, joined, senders, ready, lockHeld}
+use Rattle.model.specs.WellFormed.{isCode, nobodyOrBelow, sendInRange, receiveInRange, sendsTo}
+use Rattle.model.specs.Calls.{begunFlags, begun, ticked}
+use Rattle.model.proofs.Laws.{by, implies-read, implies-made, _and_, all-of-read, all-of-made}
+use Rattle.laws.proofs.Lists.{update-other}
+use Rattle.laws.proofs.Tables.{edit-at, below-n, below-length}
+use Rattle.laws.proofs.Phases.{lock-held-in}
+use Rattle.laws.proofs.Times.{left-from-code, left-falls}
+use Rattle.laws.proofs.Ready.{not-ready}
+use Rattle.laws.proofs.Queues.{senders-joined}
+use Rattle.invariant.proofs.Flags.{cases, flagsFit, told-any-if}
+use Rattle.invariant.proofs.Own.{outcomeFits, operationFits, phaseFits, Own}
+use Rattle.invariant.proofs.Facts.{Other}
+use Rattle.invariant.proofs.Changes.{bare-fits, own-joined, own-ended}
+use Rattle.invariant.proofs.Globals.{queues-join, copies-free}
+use Rattle.invariant.proofs.Formed.{owner, copiesTo, readings, of, Formed, kept, here, there, formed-changed, formed-one}
+use Rattle.invariant.proofs.Neighbours.{copies-in, sends-nowhere, queue-room, no-copier}
+use Rattle.invariant.proofs.Moves.{in-phase}
+
+-- what is asked of an operation that thread x begins in a table of n threads
+pub record CanBegin (n x : ℕ) (o : Operation) : Type 0 where
+  pub sends : sendInRange n (o .send) ≡ true
+  pub receives : receiveInRange n (o .receive) ≡ true
+  pub target : o .send .present ≡ true → o .send .target ≢ x
+  pub partner : closedOn (o .receive) x ≡ false
+
+-- the numbers of its operation fit
+begun-operation : (n x : ℕ) (o : Operation) → CanBegin n x o → operationFits n x true o (tickCount (firstTime o)) ≡ true
+unfolding operationFits
+begun-operation n x o l = all-of-made _ (
+    implies-made true _ (λ i. l .sends)
+    and implies-made true _ (λ i. l .receives)
+    and implies-made true _ (λ i. left-from-code (firstTime o))
+    and implies-made (o .send .present) (not (eqb (o .send .target) x)) (λ e. rw (ne-eqb (o .send .target) x (l .target e)) refl)
+    and implies-made true (not (closedOn (o .receive) x)) (λ i. rw (l .partner) refl)
+    and tt)
+
+-- a thread that begins it is well-formed by itself where its flags and numbers fit
+begun-own : (n x : ℕ) (h : Thread) (o : Operation) (p : Phase) → Own n x h → CanBegin n x o → flagsFit (phaseNumber p) (begunFlags o) (hasReceive (o .receive)) (o .send .present) ≡ true
+    → phaseFits n x (phaseNumber p) (o .send) (h .copied) (h .waking) ≡ true → Own n x (begun o p h)
+unfolding begun begunFlags outcomeFits allOf isCode nobodyOrBelow
+begun-own n x h o p w l flags phase = record {
+  flags = flags;
+  outcome = refl;
+  operation = begun-operation n x o l;
+  phase = phase;
+  queue = w .queue;
+  items = w .items;
+}
+
+-- the flags of a thread that begins to send, with a receive part or without
+lock-flags : (r : Bool) → flagsFit 1 (record { ipc = true; send = true; receiving = r; poll = false; mark = false }) r true ≡ true
+unfolding cases
+lock-flags true = refl
+lock-flags false = refl
+
+-- a thread that sends is not ready
+sending-busy : (r : Bool) → (true && r && not true) ≡ false
+sending-busy true = refl
+sending-busy false = refl
+
+module _ (n : ℕ) (T : ℕ → Thread) (F : Formed n T) (x : ℕ) (xn : x < n) (mine : T x .owner ≡ nobody) where
+  abbrev h : Thread
+  h = T x
+
+  -- ---- begin, by an idle thread
+  module _ (rest : phaseOf (h .phase) ≡ idle) where
+    quiet : h .flags .send ≡ false
+    unfolding cases
+    quiet = not-true _ (in-phase n T F x xn idle rest (λ v r s. not (v .send)) refl)
+
+    not-waiting : _≡_ {A = ℕ → Bool} (ready h) (λ s. false)
+    unfolding cases
+    not-waiting = fun-ext (not-ready h (not-true _ (in-phase n T F x xn idle rest (λ v r s. not (v .ipc && v .receiving && not (v .send))) refl)))
+
+    silent : _≡_ {A = ℕ → Bool} (λ u. false) (sendsTo h)
+    silent = fun-ext (λ u. sym (sends-nowhere h quiet u))
+
+    -- to send
+    pub begin-send-keeps : (o : Operation) → CanBegin n x o → o .send .present ≡ true → o .send .target < n
+        → Formed n (update (update T (o .send .target) (joined x (T (o .send .target)))) x (begun o lock h))
+    unfolding begun begunFlags joined readings cases phaseFits
+    begin-send-keeps o l sends rn =
+        let r : ℕ = o .send .target in
+        let f : Thread = begun o lock h in
+        let room = queue-room n T F x r xn rn quiet in
+        formed-changed T x r f (joined x (T r)) n F
+        (λ rn. own-joined n r (T r) (F .own r rn) x room)
+        (begun-own n x h o lock (F .own x xn) l (rw sends (lock-flags (hasReceive (o .receive)))) refl)
+        (kept refl refl) (kept refl (sym (lock-held-in h idle rest))) (here refl) (there (l .target sends) refl) (kept refl (sym (copies-in n T F x xn idle rest)))
+        (kept refl (fun-ext (not-ready f (rw sends (sending-busy (hasReceive (o .receive))))) ∙ sym not-waiting))
+        (queues-join n (of sendsTo T) (of senders T) x r _ _ xn rn (sends-nowhere h quiet) (λ u. rw sends refl)
+        (senders-joined x (T r) (F .own r rn .items) room) (F .queues))
+        (F .owners) (F .chains) (F .copies)
+
+    -- to receive
+    pub begin-receive-keeps : (o : Operation) → CanBegin n x o → o .send .present ≡ false → hasReceive (o .receive) ≡ true → Formed n (update T x (begun o look h))
+    unfolding begun begunFlags readings cases phaseFits
+    begin-receive-keeps o l none receives =
+        formed-one T x (begun o look h) n F
+        (begun-own n x h o look (F .own x xn) l (rw (none, receives) refl) refl)
+        (kept refl refl) (kept refl (sym (lock-held-in h idle rest))) (kept refl (fun-ext (λ u. rw none refl) ∙ silent)) (kept refl refl) (kept refl (sym (copies-in n T F x xn idle rest))) (here refl)
+        (F .queues) (F .owners) (F .chains)
+        (copies-free n (of copiesTo T) (of ready T) x _ (no-copier n T F x xn mine) (F .copies))
+
+    -- to a target that does not exist
+    pub begin-beyond-keeps : Formed n (update T x (ended (codeOnly noReceiver) h))
+    unfolding readings isCode
+    begin-beyond-keeps =
+        formed-one T x (ended (codeOnly noReceiver) h) n F
+        (own-ended n x h (F .own x xn) quiet _ (bare-fits n noReceiver refl refl))
+        (kept refl refl) (kept refl refl) (kept refl silent) (kept refl refl) (kept refl refl) (here refl)
+        (F .queues) (F .owners) (F .chains)
+        (copies-free n (of copiesTo T) (of ready T) x _ (no-copier n T F x xn mine) (F .copies))
+
+  -- ---- cancel of a running operation
+  pub cancel-keeps : h .flags .ipc ≡ true → Formed n (update T x (marked h))
+  unfolding readings cases
+  cancel-keeps runs =
+      let w : Own n x h = F .own x xn in
+      formed-one T x (marked h) n F
+      (record {
+        flags = told-any-if h (w .flags) (λ k v r s. v .ipc)
+            (λ k v r s. flagsFit k (record { ipc = v .ipc; send = v .send; receiving = v .receiving; poll = v .poll; mark = true }) r s) refl runs;
+        outcome = w .outcome;
+        operation = w .operation;
+        phase = w .phase;
+        queue = w .queue;
+        items = w .items;
+      })
+      (kept refl refl) (kept refl refl) (kept refl refl) (kept refl refl) (kept refl refl) (here refl)
+      (F .queues) (F .owners) (F .chains)
+      (copies-free n (of copiesTo T) (of ready T) x _ (no-copier n T F x xn mine) (F .copies))
+
+-- ---- tick
+-- `left` of a running thread may fall
+fallen : (n x : ℕ) (ipc : Bool) (o : Operation) (left now : ℕ) → (ipc ≡ true → isLeft left ≡ true → isLeft now ≡ true) → operationFits n x ipc o left ≡ true → operationFits n x ipc o now ≡ true
+unfolding operationFits
+fallen n x ipc o left now fits e = let (sends, (receives, (time, (target, (partner, end))))) = all-of-read _ e in
+    all-of-made _ (sends and receives and implies-made ipc _ (λ i. fits i (implies-read _ _ time i)) and target and partner and tt)
+
+tick-one-keeps : (n : ℕ) (T : ℕ → Thread) (F : Formed n T) (x : ℕ) → x < n → Formed n (update T x (ticked (T x)))
+unfolding ticked readings
+tick-one-keeps n T F x xn =
+    let w : Own n x (T x) = F .own x xn in
+    formed-one T x (ticked (T x)) n F
+    (record {
+      flags = w .flags;
+      outcome = w .outcome;
+      operation = fallen n x (T x .flags .ipc) (T x .op) (T x .left) _ (λ i e. rw i (left-falls (T x .left) e)) (w .operation);
+      phase = w .phase;
+      queue = w .queue;
+      items = w .items;
+    })
+    (kept refl refl) (kept refl refl) (kept refl refl) (kept refl refl) (kept refl refl) (kept refl refl)
+    (F .queues) (F .owners) (F .chains) (F .copies)
+
+-- of all threads below k
+pub tick-keeps : (t : Table) → length (t .threads) ≡ 32 → Formed (t .n) (at t) → (k : ℕ) → k ≤ t .n → Formed (t .n) (at (editBelow k ticked t))
+unfolding editBelow
+tick-keeps t whole F zero l = F
+tick-keeps t whole F (suc k) l =
+    let few = F .few in
+    let before : Formed (t .n) (at (editBelow k ticked t)) = tick-keeps t whole F k (omega arith) in
+    subst (Formed (t .n)) (sym (edit-at k ticked (editBelow k ticked t) (omega (arith, below-length ticked t k)))) (tick-one-keeps (t .n) (at (editBelow k ticked t)) before k (omega arith))

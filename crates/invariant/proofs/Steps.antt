@@ -1,0 +1,102 @@
+-- A step keeps the threads well-formed, whatever it does.
+use mathlib.Core.Path.{_≡_, refl, sym, ap, _∙_, subst}
+use mathlib.Core.Logic.{_⊎_, inl, inr, ⊎-elim}
+use mathlib.Core.Bool.{true}
+use Prim.Native.Nat.{ℕ, _<_}
+use native.Mathlib.Omega.{arith}
+use lib.ListN.{length}
+use lib.IntN.{ℤ}
+use Rattle.model.specs.declared.Thread.{Thread}
+use Rattle.model.specs.declared.Table.{Table}
+use Rattle.model.specs.Answers.{Reply, held}
+use Rattle.model.specs.Lists.{update}
+use Rattle.model.specs.Shared.{nobody, receiveTimeOver, sendTimeOver, receiveCancelled, sendCancelled}
+use Rattle.model.specs.Threads.{Phase, check, look, release, phaseOf, at}
+use Rattle.model.specs.WellFormed.{isCode}
+use Rattle.model.specs.Step.{Action, stay, takeLock, abortSend, startCopy, toRelease, copyWord, finishCall, finishSend, freeTarget, retry, toIdle, abortReceive, takeSender, clearPoll, freeSender, other, decide, ownAfter, otherAfter, act}
+use Rattle.laws.proofs.Lists.{update-own}
+use Rattle.laws.proofs.Tables.{act-at}
+use Rattle.laws.proofs.Search.{found-queued}
+use Rattle.laws.proofs.Decided.{Fits, AbortsSend, AbortsReceive, GoesOn, sending, receiving, ended, decided, own-lock-free, lock-free-read, otherOf, other-is}
+use Rattle.invariant.proofs.Facts.{target-other}
+use Rattle.invariant.proofs.Formed.{Formed}
+use Rattle.invariant.proofs.Neighbours.{sends-in-lock, sends-in-check, sends-in-copy, target-in-release, woken-in-wake, woken-in-unlock}
+use Rattle.invariant.proofs.Moves.{afterAction, queued-other, take-lock-keeps, take-sender-keeps, release-to-sleep-keeps, release-to-look-keeps, release-to-idle-keeps, free-sender-keeps, start-copy-keeps, to-release-keeps, copy-word-keeps, retry-keeps, to-idle-keeps, clear-poll-keeps}
+use Rattle.invariant.proofs.Endings.{abort-send-keeps, abort-receive-keeps, finish-call-keeps, finish-send-keeps}
+
+module _ (t : Table) (F : Formed (t .n) (at t)) (x : ℕ) (xn : x < t .n) where
+  -- the other thread of an action is in the table, or the action leaves it as it was
+  pub other-in-table : (a : Action) → Fits t x a → (otherOf a (at t x) < t .n) ⊎ (otherAfter a x (at t x) (at t (otherOf a (at t x))) ≡ at t (otherOf a (at t x)))
+  unfolding otherAfter
+  other-in-table (stay a) f = inr refl
+  other-in-table takeLock f = inl (target-other (t .n) x (at t x) (F .own x xn) (sends-in-lock (t .n) (at t) F x xn (f .0)) .below)
+  other-in-table (abortSend c) f = inl (target-other (t .n) x (at t x) (F .own x xn) (sends-in-check (t .n) (at t) F x xn (f .0)) .below)
+  other-in-table startCopy f = inr refl
+  other-in-table toRelease f = inr refl
+  other-in-table copyWord f = inr refl
+  other-in-table finishCall f = inl (target-other (t .n) x (at t x) (F .own x xn) (sends-in-copy (t .n) (at t) F x xn (f .0)) .below)
+  other-in-table finishSend f = inl (target-other (t .n) x (at t x) (F .own x xn) (sends-in-copy (t .n) (at t) F x xn (f .0)) .below)
+  other-in-table (freeTarget p) f = inl (target-in-release (t .n) (at t) F x xn (f .0) .below)
+  other-in-table retry f = inr refl
+  other-in-table toIdle f = inr refl
+  other-in-table (abortReceive c) f = inr refl
+  other-in-table (takeSender s) f = inl (queued-other (t .n) (at t) F x xn s (f .0) (found-queued (at t x) s (f .1 .finds)) .below)
+  other-in-table clearPoll f = inl (woken-in-wake (t .n) (at t) F x xn f .below)
+  other-in-table freeSender f = inl (woken-in-unlock (t .n) (at t) F x xn f .below)
+
+  -- the threads after an action that was decided
+  pub act-changes : length (t .threads) ≡ 32 → (a : Action) → Fits t x a → at (act a x t) ≡ afterAction a (at t) x
+  act-changes whole a f =
+      let few = F .few in
+      let i : other (at t x) ≡ otherOf a (at t x) = other-is t x a f in
+      subst (λ (r : ℕ). at (act a x t) ≡ update (update (at t) r (otherAfter a x (at t x) (at t r))) x (ownAfter a (at t x))) i
+      (act-at a x t (omega arith)
+      (subst (λ (r : ℕ). (r < length (t .threads)) ⊎ (otherAfter a x (at t x) (at t r) ≡ at t r)) (sym i)
+      (⊎-elim (λ l. inl (omega arith)) inr (other-in-table a f))))
+
+  -- a step that stays changes nothing
+  stay-keeps : (a : Reply) → Formed (t .n) (afterAction (stay a) (at t) x)
+  unfolding ownAfter otherAfter
+  stay-keeps a = rw (update-own (at t) (other (at t x)), update-own (at t) x) F
+
+  module _ (mine : at t x .owner ≡ nobody) where
+    aborts-send : (c : ℤ) → AbortsSend t x c → phaseOf (at t x .phase) ≡ check → Formed (t .n) (afterAction (abortSend c) (at t) x)
+    unfolding isCode
+    aborts-send c (AbortsSend.cancelled e) p = abort-send-keeps (t .n) (at t) F x xn sendCancelled refl refl p
+    aborts-send c (AbortsSend.late e f g) p = abort-send-keeps (t .n) (at t) F x xn sendTimeOver refl refl p
+
+    aborts-receive : (c : ℤ) → AbortsReceive t x c → phaseOf (at t x .phase) ≡ look → Formed (t .n) (afterAction (abortReceive c) (at t) x)
+    unfolding isCode
+    aborts-receive c (AbortsReceive.cancelled e) p = abort-receive-keeps (t .n) (at t) F x xn receiveCancelled refl refl p mine
+    aborts-receive c (AbortsReceive.late e f g) p = abort-receive-keeps (t .n) (at t) F x xn receiveTimeOver refl refl p mine
+
+    goes-on : (q : Phase) → GoesOn t x q → phaseOf (at t x .phase) ≡ release → Formed (t .n) (afterAction (freeTarget q) (at t) x)
+    goes-on q (sending e) p = release-to-sleep-keeps (t .n) (at t) F x xn p e
+    goes-on q (receiving e f) p = release-to-look-keeps (t .n) (at t) F x xn p e
+    goes-on q (ended e f) p = release-to-idle-keeps (t .n) (at t) F x xn p f
+
+    -- every action that was decided keeps the threads well-formed
+    action-keeps : (a : Action) → Fits t x a → Formed (t .n) (afterAction a (at t) x)
+    action-keeps (stay a) f = stay-keeps a
+    action-keeps takeLock f = take-lock-keeps (t .n) (at t) F x xn (f .0) mine (f .1)
+    action-keeps (abortSend c) f = aborts-send c (f .1) (f .0)
+    action-keeps startCopy f = start-copy-keeps (t .n) (at t) F x xn (f .0) (f .2)
+    action-keeps toRelease f = to-release-keeps (t .n) (at t) F x xn (f .0)
+    action-keeps copyWord f = copy-word-keeps (t .n) (at t) F x xn (f .0) (f .1)
+    action-keeps finishCall f = finish-call-keeps (t .n) (at t) F x xn (f .0) mine (f .2)
+    action-keeps finishSend f = finish-send-keeps (t .n) (at t) F x xn (f .0) mine
+    action-keeps (freeTarget q) f = goes-on q (f .1) (f .0)
+    action-keeps retry f = retry-keeps (t .n) (at t) F x xn (f .0)
+    action-keeps toIdle f = to-idle-keeps (t .n) (at t) F x xn (f .0) (f .1)
+    action-keeps (abortReceive c) f = aborts-receive c (f .2) (f .0)
+    action-keeps (takeSender s) f = take-sender-keeps (t .n) (at t) F x xn s (f .0) mine (found-queued (at t x) s (f .1 .finds)) (f .1 .free)
+    action-keeps clearPoll f = clear-poll-keeps (t .n) (at t) F x xn f
+    action-keeps freeSender f = free-sender-keeps (t .n) (at t) F x xn f
+
+  -- a step keeps the threads well-formed
+  pub step-keeps : length (t .threads) ≡ 32 → Formed (t .n) (at (act (decide t x) x t))
+  step-keeps whole = subst (Formed (t .n)) (sym (act-changes whole (decide t x) (decided t x)))
+      (⊎-elim
+      (λ e. subst (λ (a : Action). Formed (t .n) (afterAction a (at t) x)) (sym e) (stay-keeps held))
+      (λ free. action-keeps (lock-free-read (at t x) free) (decide t x) (decided t x))
+      (own-lock-free t x))

@@ -1,0 +1,10 @@
+pub mod Sides
+pub mod Effects
+pub mod Places
+pub mod Operations
+pub mod Endings
+pub mod Completions
+pub mod Counting
+pub mod Delivery
+pub mod Pairing
+pub mod Exchange
