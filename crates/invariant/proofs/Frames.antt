@@ -1,6 +1,6 @@
--- What a call does not change: the number of threads, the store's length, the threads from N on, and all words but those of a thread that begins or is copied to.
+-- What no call changes: the number of threads and the store's length.
 use mathlib.Core.Path.{_≡_, refl, sym, ap, _∙_}
-use mathlib.Core.Bool.{true, false}
+use mathlib.Core.Logic.{⊎-elim}
 use mathlib.Core.List.{List}
 use Prim.Native.Nat.{ℕ}
 use lib.ListN.{length}
@@ -9,13 +9,13 @@ use Rattle.model.specs.declared.Thread.{Thread}
 use Rattle.model.specs.declared.Table.{Table}
 use Rattle.model.specs.Shared.{targetBeyond}
 use Rattle.model.specs.Threads.{at, edit, joined, marked, ended}
-use Rattle.model.specs.Step.{Action, stay, takeLock, abortSend, startCopy, toRelease, copyWord, finishCall, finishSend, freeTarget, retry, toIdle, abortReceive, takeSender, clearPoll, freeSender, decide, storeAfter}
+use Rattle.model.specs.Step.{Action, decide, storeAfter}
 use Rattle.model.specs.Calls.{ticked, beginTable, cancelTable, tickTable, Call, begin, step, cancel, tick, State, acceptedState}
 use Rattle.model.specs.Refusals.{refusal}
 use Rattle.model.specs.Promise.{next}
 use Rattle.model.proofs.Laws.{by}
 use Rattle.laws.proofs.Tables.{edit-n, below-n, act-n}
-use Rattle.laws.proofs.Store.{length-zeroed, length-word-copied}
+use Rattle.laws.proofs.Store.{length-zeroed, length-word-copied, step-store}
 use Rattle.laws.proofs.Calls.{accepted?, accepted-next, refused-next, target-beyond, begins-to-send, begins-to-receive, cancel-marks, cancel-nothing}
 
 -- ---- the number of threads
@@ -48,22 +48,7 @@ next-size c s = accepted? c s
 
 -- ---- the store's length
 step-store-length : (a : Action) (h : Thread) (store : List ℕ) → length (storeAfter a h store) ≡ length store
-unfolding storeAfter
-step-store-length (stay a) h store = refl
-step-store-length takeLock h store = refl
-step-store-length (abortSend c) h store = refl
-step-store-length startCopy h store = refl
-step-store-length toRelease h store = refl
-step-store-length copyWord h store = length-word-copied h store
-step-store-length finishCall h store = refl
-step-store-length finishSend h store = refl
-step-store-length (freeTarget p) h store = refl
-step-store-length retry h store = refl
-step-store-length toIdle h store = refl
-step-store-length (abortReceive c) h store = refl
-step-store-length (takeSender s) h store = refl
-step-store-length clearPoll h store = refl
-step-store-length freeSender h store = refl
+step-store-length a h store = ⊎-elim (λ e. ap length e) (λ e. ap length (e .1) ∙ length-word-copied h store) (step-store a h store)
 
 accepted-store-length : (c : Call) (s : State) → length (acceptedState c s .store) ≡ length (s .store)
 unfolding acceptedState

@@ -58,6 +58,11 @@ module _ (t : Table) (whole : length (t .threads) ≡ 32) (F : Formed (t .n) (at
     formed = subst (Formed (t .n)) (sym (edit-two-at x r f g t (omega arith) (omega arith) apart)) after;
   }
 
+-- the target of a send part is in the table unless it is beyond
+pub target-near : (n : ℕ) (o : Operation) → o .send .present ≡ true → targetBeyond n o ≡ false → o .send .target < n
+unfolding targetBeyond
+target-near n o sends e = leb-false n (o .send .target) (rw sends at e)
+
 -- an accepted begin
 begin-kept : (x : ℕ) (o : Operation) (s : State) → AcceptedBegin s x o → length (s .table .threads) ≡ 32 → Formed (s .table .n) (at (s .table)) → Kept (s .table .n) (beginTable x o (s .table))
 begin-kept x o s b whole F =
@@ -65,7 +70,7 @@ begin-kept x o s b whole F =
     (λ e. subst (Kept n) (sym (target-beyond x o t e)) (edited t whole F x _ xn (begin-beyond-keeps n (at t) F x xn mine rest)))
     (λ e. by (o .send .present)
     (λ sends. subst (Kept n) (sym (begins-to-send x o t e sends))
-    (edited-two t whole F x (o .send .target) _ (joined x) xn (near sends e) (λ i. b .otherTarget sends (sym i)) (begin-send-keeps n (at t) F x xn mine rest o (canBegin e) sends (near sends e))))
+    (edited-two t whole F x (o .send .target) _ (joined x) xn (target-near n o sends e) (λ i. b .otherTarget sends (sym i)) (begin-send-keeps n (at t) F x xn mine rest o (canBegin e) sends (target-near n o sends e))))
     (λ none. subst (Kept n) (sym (begins-to-receive x o t none)) (edited t whole F x _ xn (begin-receive-keeps n (at t) F x xn mine rest o (canBegin e) none (receives none)))))
   where
     t : Table
@@ -82,9 +87,6 @@ begin-kept x o s b whole F =
 
     rest : phaseOf (at t x .phase) ≡ idle
     rest = in-idle (at t x) (b .inIdle)
-
-    near : o .send .present ≡ true → targetBeyond n o ≡ false → o .send .target < n
-    near sends e = leb-false n (o .send .target) (unfold targetBeyond in rw sends at e)
 
     receives : o .send .present ≡ false → hasReceive (o .receive) ≡ true
     receives none = rw none at (b .part)
@@ -112,7 +114,7 @@ accepted-keeps tick s e whole F = record {
 -- ---- every call, refused or not
 module _ (c : Call) (s : State) where
   -- an accepted call found a well-formed table
-  found-formed : Shaped (s .table) → refusal c s ≡ 0 → Formed (s .table .n) (at (s .table))
+  pub found-formed : Shaped (s .table) → refusal c s ≡ 0 → Formed (s .table .n) (at (s .table))
   found-formed z e = formed-read (s .table) (well-formed-told (s .table) (accepted-table c s e .formed)) z
 
   -- what an accepted call leaves

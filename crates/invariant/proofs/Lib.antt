@@ -12,3 +12,4 @@ pub mod Begins
 pub mod Frames
 pub mod Keeps
 pub mod New
+pub mod Untouched

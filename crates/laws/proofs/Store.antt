@@ -13,7 +13,7 @@ use Rattle.model.specs.declared.Thread.{Thread}
 use Rattle.model.specs.Lists.{upTo}
 use Rattle.model.specs.Shared.{wordLimit, message}
 use Rattle.model.specs.Threads.{wordsAt, zeroed}
-use Rattle.model.specs.Step.{wordCopied}
+use Rattle.model.specs.Step.{Action, stay, takeLock, abortSend, startCopy, toRelease, copyWord, finishCall, finishSend, freeTarget, retry, toIdle, abortReceive, takeSender, clearPoll, freeSender, wordCopied, storeAfter}
 use Rattle.model.proofs.Laws.{by}
 
 -- a list that is f at each of its first k places starts with f's first k values
@@ -107,3 +107,23 @@ module _ (store : List ℕ) (n y : ℕ) (fit : length store ≡ 8 * n) (below : 
       → take (part .count) (wordsAt store y) ≡ message part
   unfolding message
   words-are-message part few h = words-are (part .count) (λ i. getD (part .words) i 0) few h
+
+-- ---- the store after a step
+-- a step leaves the store as it was, or copies one word
+pub step-store : (a : Action) (h : Thread) (store : List ℕ) → (storeAfter a h store ≡ store) ⊎ ((a ≡ copyWord) × (storeAfter a h store ≡ wordCopied h store))
+unfolding storeAfter
+step-store (stay a) h store = inl refl
+step-store takeLock h store = inl refl
+step-store (abortSend c) h store = inl refl
+step-store startCopy h store = inl refl
+step-store toRelease h store = inl refl
+step-store copyWord h store = inr (refl, refl)
+step-store finishCall h store = inl refl
+step-store finishSend h store = inl refl
+step-store (freeTarget p) h store = inl refl
+step-store retry h store = inl refl
+step-store toIdle h store = inl refl
+step-store (abortReceive c) h store = inl refl
+step-store (takeSender s) h store = inl refl
+step-store clearPoll h store = inl refl
+step-store freeSender h store = inl refl

@@ -62,6 +62,11 @@ pub edit-length : (x : ℕ) (f : Thread → Thread) (t : Table) → length (edit
 unfolding edit
 edit-length x f t = put-length x (f (at t x)) t
 
+-- every other thread is as it was
+pub edit-other : (x : ℕ) (f : Thread → Thread) (t : Table) (y : ℕ) → y ≢ x → at (edit x f t) y ≡ at t y
+unfolding edit
+edit-other x f t y d = put-other x (f (at t x)) t y d
+
 -- r is edited, and then another thread x
 pub edit-two-at : (x r : ℕ) (f g : Thread → Thread) (t : Table) → x < length (t .threads) → r < length (t .threads) → x ≢ r
     → at (edit x f (edit r g t)) ≡ update (update (at t) r (g (at t r))) x (f (at t x))
