@@ -11,6 +11,7 @@ use Rattle.model.specs.Promise
 use Rattle.model.specs.Atomic
 use Rattle.model.specs.Linearization
 use Rattle.model.specs.Linearized
+use Rattle.model.specs.Replay
 use Rattle.model.specs.Schedule
 use Rattle.model.specs.Bondtrace
 use Rattle.model.specs.Examples
@@ -55,6 +56,10 @@ unfoldable pub traces : ℕ
 unfolding Linearization.played Linearization.latest Linearization.pairs Linearization.fate
 traces = 0
 
+unfoldable pub replays : ℕ
+unfolding Replay.noneAcceptable Replay.abortTest Replay.canTest Replay.sameWords Replay.sameView Replay.agree
+replays = 0
+
 unfoldable pub orders : ℕ
 unfolding Linearized.eventOf Linearized.acceptedEntry Linearized.entry Linearized.linearization
 orders = 0
@@ -72,5 +77,5 @@ unfolding Examples.answersOf Examples.run Examples.seen Examples.workedOut Examp
 rows = 0
 
 unfoldable pub computing : ℕ
-unfolding lists shared threads clauses steps calls refusals promises events traces orders bytes texts rows
+unfolding lists shared threads clauses steps calls refusals promises events traces orders replays bytes texts rows
 computing = 0

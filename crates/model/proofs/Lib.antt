@@ -6,6 +6,7 @@ pub mod Chains
 pub mod Tested
 pub mod Computing
 pub mod Examples
+pub mod Replays
 pub mod Clauses
 pub mod Making
 pub mod Printed

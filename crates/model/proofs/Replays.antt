@@ -1,0 +1,49 @@
+-- Concrete traces, replayed by computation: after every call both machines show the same, and every event is allowed where it stands.
+-- That this holds of every trace is the linearization theorem; each of these traces tells a wrong machine from ours.
+use mathlib.Core.Path.{_≡_, refl}
+use mathlib.Core.Bool.{true}
+use mathlib.Core.List.{List, [], _∷_, _++_}
+use lib.ListN.{replicate}
+use Rattle.model.specs.declared.Receive.the-variants.{Absent}
+use Rattle.model.specs.Threads.{newTable}
+use Rattle.model.specs.Calls.{Call, begin, step, cancel, tick, State}
+use Rattle.model.specs.Promise.{state}
+use Rattle.model.specs.Atomic.{firstMachine}
+use Rattle.model.specs.Replay.{agree}
+use Rattle.model.specs.Examples.{sendTo, receiveOnly, openFor, closedFor, steps}
+use Rattle.model.proofs.Computing.{computing}
+
+-- a trace, by what it shows
+pub data Name : Type 0 where
+  ready-at-time-0 marked-receiver receiver-still-sending new-time-for-the-receive mark-kept-past-the-send words-of-two-messages : Name
+
+-- its calls, on a new table of three threads
+unfoldable pub calls : Name → List Call
+-- a send with no time left finds its target ready
+calls ready-at-time-0 = begin 1 (receiveOnly (openFor 15)) ∷ begin 0 (sendTo 1 (250 ∷ []) 0 Absent) ∷ steps 5 0
+-- a receiver is cancelled before its sender looks at it
+calls marked-receiver = begin 1 (receiveOnly (openFor 15)) ∷ begin 0 (sendTo 1 (250 ∷ []) 15 Absent) ∷ cancel 1 ∷ steps 6 0 ++ steps 2 1
+-- thread 1 calls 2, which does not receive; meanwhile 0 sends to 1
+calls receiver-still-sending = begin 1 (sendTo 2 (1 ∷ []) 15 (openFor 15)) ∷ steps 4 1 ++ begin 0 (sendTo 1 (250 ∷ []) 15 Absent) ∷ steps 6 0
+-- a call whose send part has no time left waits for ever for its answer
+calls new-time-for-the-receive = begin 1 (receiveOnly (openFor 15)) ∷ begin 0 (sendTo 1 (250 ∷ []) 0 (closedFor 2 15)) ∷ steps 6 0
+-- a call is cancelled while it copies; then 2 sends to it
+calls mark-kept-past-the-send =
+    begin 1 (receiveOnly (openFor 15)) ∷ begin 0 (sendTo 1 (250 ∷ []) 15 (openFor 15)) ∷ steps 2 0 ++ cancel 0 ∷ steps 3 0 ++ begin 2 (sendTo 0 (9 ∷ []) 15 Absent) ∷ steps 5 2
+-- 1 and 2 receive; 0 sends two words to 2, then one to 1
+calls words-of-two-messages =
+    begin 1 (receiveOnly (openFor 15)) ∷ begin 2 (receiveOnly (openFor 15)) ∷ begin 0 (sendTo 2 (5 ∷ 6 ∷ []) 15 Absent) ∷ steps 6 0 ++ begin 0 (sendTo 1 (7 ∷ []) 15 Absent) ∷ tick ∷ steps 5 0
+
+-- the new table, and a store of sevens
+abbrev pub first : State
+first = state (newTable 3) (replicate 24 7)
+
+-- both machines go together
+pub replays : (name : Name) → agree 3 first firstMachine (calls name) ≡ true
+unfolding computing calls
+replays ready-at-time-0 = refl
+replays marked-receiver = refl
+replays receiver-still-sending = refl
+replays new-time-for-the-receive = refl
+replays mark-kept-past-the-send = refl
+replays words-of-two-messages = refl

@@ -1,0 +1,71 @@
+-- A trace replayed: its linearization is played on the atomic machine, and both machines are compared after every call. All of it computes.
+use mathlib.Core.Bool.{Bool, true, false, not, _&&_, _||_}
+use mathlib.Core.Option.{none, some}
+use mathlib.Core.List.{List, [], _∷_}
+use Prim.Native.Nat.{ℕ}
+use lib.Dec.{eqb, ltb}
+use lib.IntN.{ℤ}
+use Rattle.model.specs.Lists.{implies, allOf, allBelow}
+use Rattle.model.specs.Shared.{receiveTimeOver, sendTimeOver, receiveCancelled, sendCancelled, sameCode, View}
+use Rattle.model.specs.Calls.{Call, State}
+use Rattle.model.specs.Promise.{next, view}
+use Rattle.model.specs.Atomic.{Run, nothing, sending, receiving, Machine, Event, begins, cancels, ticks, rendezvous, aborts, runs, shows, acceptsIn, readyFor}
+use Rattle.model.specs.Linearization.{Entry, playEntry}
+use Rattle.model.specs.Linearized.{entry}
+
+-- ---- the conditions of an event as a test
+-- what runs is a send to r
+abbrev pub sendsNowTo : Run → ℕ → Bool
+sendsNowTo nothing r = false
+sendsNowTo (sending o) r = eqb (o .send .target) r
+sendsNowTo (receiving w) r = false
+
+-- no acceptable sender is queued at r
+unfoldable pub noneAcceptable : ℕ → Machine → ℕ → Bool
+noneAcceptable n p r = allBelow n (λ s. implies (sendsNowTo (p s .run) r) (not (acceptsIn (p r .run) s)))
+
+-- what x runs may be aborted with code c
+unfoldable pub abortTest : ℕ → Machine → ℕ → ℤ → Run → Bool
+abortTest n p x c nothing = false
+abortTest n p x c (sending o) = sameCode c sendCancelled && p x .mark || sameCode c sendTimeOver && (eqb (p x .left) 0 && not (readyFor p (o .send .target) x))
+abortTest n p x c (receiving w) = sameCode c receiveCancelled && p x .mark || sameCode c receiveTimeOver && (eqb (p x .left) 0 && noneAcceptable n p x)
+
+-- the conditions of an event hold
+unfoldable pub canTest : ℕ → Event → Machine → Bool
+canTest n (begins x o) p = allOf (ltb x n ∷ not (runs (p x .run)) ∷ [])
+canTest n (cancels x) p = ltb x n
+canTest n ticks p = true
+canTest n (rendezvous s r) p = allOf (ltb s n ∷ ltb r n ∷ sendsNowTo (p s .run) r ∷ readyFor p r s ∷ [])
+canTest n (aborts x c) p = allOf (ltb x n ∷ abortTest n p x c (p x .run) ∷ [])
+
+-- of an entry
+abbrev pub allowedTest : ℕ → Entry → Machine → Bool
+allowedTest n none p = true
+allowedTest n (some e) p = canTest n e p
+
+-- ---- both machines after each call
+-- two lists of words are the same
+unfoldable pub sameWords : List ℕ → List ℕ → Bool
+sameWords [] [] = true
+sameWords [] (b ∷ r) = false
+sameWords (a ∷ q) [] = false
+sameWords (a ∷ q) (b ∷ r) = eqb a b && sameWords q r
+
+-- two threads show the same
+unfoldable pub sameView : View → View → Bool
+sameView v w = allOf (
+    sameCode (v .outcome .code) (w .outcome .code)
+    ∷ eqb (v .outcome .source) (w .outcome .source)
+    ∷ eqb (v .outcome .count) (w .outcome .count)
+    ∷ sameWords (v .words) (w .words)
+    ∷ []
+    )
+
+-- from s and p on, each event is allowed where it stands, and after each call both machines show the same
+unfoldable pub agree : ℕ → State → Machine → List Call → Bool
+agree n s p [] = true
+agree n s p (c ∷ cs) =
+    let e = entry c s in
+    let after = next c s in
+    let later = playEntry n e p in
+    allOf (allowedTest n e p ∷ allBelow n (λ x. sameView (view after x) (shows later x)) ∷ agree n after later cs ∷ [])
