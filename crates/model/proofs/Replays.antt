@@ -1,21 +1,22 @@
--- Concrete traces, replayed by computation: after every call both machines show the same, and every event is allowed where it stands.
--- That this holds of every trace is the linearization theorem; each of these traces tells a wrong machine from ours.
+-- Concrete traces, replayed by computation: after every call both machines show the same, every event is allowed where it stands, and the
+-- table stays well-formed. That this holds of every trace is the linearization theorem; each of these traces tells a wrong machine from ours.
 use mathlib.Core.Path.{_≡_, refl}
 use mathlib.Core.Bool.{true}
 use mathlib.Core.List.{List, [], _∷_, _++_}
 use lib.ListN.{replicate}
 use Rattle.model.specs.declared.Receive.the-variants.{Absent}
 use Rattle.model.specs.Threads.{newTable}
+use Rattle.model.specs.WellFormed.{wellFormed}
 use Rattle.model.specs.Calls.{Call, begin, step, cancel, tick, State}
 use Rattle.model.specs.Promise.{state}
 use Rattle.model.specs.Atomic.{firstMachine}
 use Rattle.model.specs.Replay.{agree}
-use Rattle.model.specs.Examples.{sendTo, receiveOnly, openFor, closedFor, steps}
+use Rattle.model.specs.Examples.{sendTo, receiveOnly, openFor, closedFor, steps, run}
 use Rattle.model.proofs.Computing.{computing}
 
 -- a trace, by what it shows
 pub data Name : Type 0 where
-  ready-at-time-0 marked-receiver receiver-still-sending new-time-for-the-receive mark-kept-past-the-send words-of-two-messages : Name
+  ready-at-time-0 marked-receiver receiver-still-sending new-time-for-the-receive mark-kept-past-the-send received-in-wake words-of-two-messages : Name
 
 -- its calls, on a new table of three threads
 unfoldable pub calls : Name → List Call
@@ -30,6 +31,9 @@ calls new-time-for-the-receive = begin 1 (receiveOnly (openFor 15)) ∷ begin 0 
 -- a call is cancelled while it copies; then 2 sends to it
 calls mark-kept-past-the-send =
     begin 1 (receiveOnly (openFor 15)) ∷ begin 0 (sendTo 1 (250 ∷ []) 15 (openFor 15)) ∷ steps 2 0 ++ cancel 0 ∷ steps 3 0 ++ begin 2 (sendTo 0 (9 ∷ []) 15 Absent) ∷ steps 5 2
+-- 1 is waking 0 when 2 delivers to it
+calls received-in-wake =
+    begin 0 (sendTo 1 (250 ∷ []) 15 Absent) ∷ steps 3 0 ++ begin 1 (receiveOnly (openFor 15)) ∷ steps 1 1 ++ begin 2 (sendTo 1 (9 ∷ []) 15 Absent) ∷ steps 5 2 ++ steps 3 1 ++ steps 4 0
 -- 1 and 2 receive; 0 sends two words to 2, then one to 1
 calls words-of-two-messages =
     begin 1 (receiveOnly (openFor 15)) ∷ begin 2 (receiveOnly (openFor 15)) ∷ begin 0 (sendTo 2 (5 ∷ 6 ∷ []) 15 Absent) ∷ steps 6 0 ++ begin 0 (sendTo 1 (7 ∷ []) 15 Absent) ∷ tick ∷ steps 5 0
@@ -46,4 +50,16 @@ replays marked-receiver = refl
 replays receiver-still-sending = refl
 replays new-time-for-the-receive = refl
 replays mark-kept-past-the-send = refl
+replays received-in-wake = refl
 replays words-of-two-messages = refl
+
+-- and the table stays well-formed
+pub stays-well-formed : (name : Name) → wellFormed (run first (calls name) .table) ≡ true
+unfolding computing calls
+stays-well-formed ready-at-time-0 = refl
+stays-well-formed marked-receiver = refl
+stays-well-formed receiver-still-sending = refl
+stays-well-formed new-time-for-the-receive = refl
+stays-well-formed mark-kept-past-the-send = refl
+stays-well-formed received-in-wake = refl
+stays-well-formed words-of-two-messages = refl
