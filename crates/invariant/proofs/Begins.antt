@@ -1,8 +1,7 @@
 -- Begin, cancel and tick, where they are accepted, keep the threads well-formed.
-use mathlib.Core.Path.{_≡_, refl, sym, ap, _∙_, subst, fun-ext}
+use mathlib.Core.Path.{_≡_, refl, sym, _∙_, subst, fun-ext}
 use mathlib.Core.Logic.{_≢_}
-use mathlib.Core.Bool.{Bool, true, false, not, cond, _&&_}
-use mathlib.Core.List.{[], _∷_}
+use mathlib.Core.Bool.{Bool, true, false, not, _&&_}
 use Prim.Native.Nat.{ℕ, zero, suc, _≤_, _<_}
 use native.Mathlib.Omega.{arith}
 use lib.ListN.{length}
@@ -11,21 +10,19 @@ use borrow.Author.Tests.{ne-eqb, not-true}
 use Rattle.model.specs.declared.Operation.{Operation}
 use Rattle.model.specs.declared.Thread.{Thread}
 use Rattle.model.specs.declared.Table.{Table}
-use Rattle.model.specs.Lists.{implies, allOf, update}
-use Rattle.model.specs.Shared.{noReceiver, nobody, codeOnly, running, closedOn, hasReceive, firstTime, tickCount, isLeft}
-use Rattle.model.specs.Threads.{Phase, idle, lock, look, phaseOf, phaseNumber, at, editBelow, marked, ended, joined, senders, ready, lockHeld}
+use Rattle.model.specs.Lists.{allOf, update}
+use Rattle.model.specs.Shared.{noReceiver, nobody, codeOnly, closedOn, hasReceive, firstTime, tickCount, isLeft}
+use Rattle.model.specs.Threads.{Phase, idle, lock, look, phaseOf, phaseNumber, at, editBelow, marked, ended, joined, senders, ready}
 use Rattle.model.specs.WellFormed.{isCode, nobodyOrBelow, sendInRange, receiveInRange, sendsTo}
 use Rattle.model.specs.Calls.{begunFlags, begun, ticked}
-use Rattle.model.proofs.Laws.{by, implies-read, implies-made, _and_, all-of-read, all-of-made}
-use Rattle.laws.proofs.Lists.{update-other}
-use Rattle.laws.proofs.Tables.{edit-at, below-n, below-length}
+use Rattle.model.proofs.Laws.{implies-read, implies-made, _and_, all-of-read, all-of-made}
+use Rattle.laws.proofs.Tables.{edit-at, below-length}
 use Rattle.laws.proofs.Phases.{lock-held-in}
 use Rattle.laws.proofs.Times.{left-from-code, left-falls}
 use Rattle.laws.proofs.Ready.{not-ready}
 use Rattle.laws.proofs.Queues.{senders-joined}
 use Rattle.invariant.proofs.Flags.{cases, flagsFit, told-any-if}
 use Rattle.invariant.proofs.Own.{outcomeFits, operationFits, phaseFits, Own}
-use Rattle.invariant.proofs.Facts.{Other}
 use Rattle.invariant.proofs.Changes.{bare-fits, own-joined, own-ended}
 use Rattle.invariant.proofs.Globals.{queues-join, copies-free}
 use Rattle.invariant.proofs.Formed.{owner, copiesTo, readings, of, Formed, kept, here, there, formed-changed, formed-one}

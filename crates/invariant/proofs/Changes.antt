@@ -1,13 +1,11 @@
 -- Changes of one thread that keep it well-formed by itself.
 use mathlib.Core.Path.{_≡_, refl}
 use mathlib.Core.Bool.{Bool, true, false, not}
-use mathlib.Core.List.{[], _∷_}
 use Prim.Native.Nat.{ℕ, _+_, _-_, _≤_, _<_}
 use native.Mathlib.Omega.{arith}
-use lib.Dec.{eqb, leb, ltb}
+use lib.Dec.{eqb}
 use lib.IntN.{ℤ}
 use borrow.Author.Tests.{le-leb, lt-ltb, ne-eqb}
-use Rattle.model.specs.declared.Flags.{Flags}
 use Rattle.model.specs.declared.SendPart.{SendPart}
 use Rattle.model.specs.declared.Operation.{Operation}
 use Rattle.model.specs.declared.Outcome.{Outcome}
@@ -20,7 +18,7 @@ use Rattle.model.proofs.Laws.{implies-made, _and_, all-of-read, all-of-made}
 use Rattle.laws.proofs.Lists.{or-true}
 use Rattle.laws.proofs.Times.{left-from-code}
 use Rattle.laws.proofs.Queues.{departed-length, joined-length}
-use Rattle.invariant.proofs.Flags.{cases, isOneOf, flagsFit, FlagsFit, told-any, told-any-if}
+use Rattle.invariant.proofs.Flags.{cases, flagsFit, FlagsFit, told-any, told-any-if}
 use Rattle.invariant.proofs.Own.{outcomeFits, operationFits, phaseFits, queueFits, Own}
 use Rattle.invariant.proofs.Facts.{Other, queue-small}
 

@@ -1,27 +1,24 @@
 -- The actions of a step by which an operation ends or its send part does: each keeps the threads well-formed.
 use mathlib.Core.Path.{_≡_, refl, sym, _∙_, fun-ext}
-use mathlib.Core.Logic.{_≢_}
 use mathlib.Core.Bool.{Bool, true, false, not, _&&_}
-use mathlib.Core.List.{[], _∷_}
 use Prim.Native.Nat.{ℕ, _≤_, _<_}
 use native.Mathlib.Omega.{arith}
 use lib.IntN.{ℤ}
 use borrow.Author.Tests.{not-true}
 use Rattle.model.specs.declared.Thread.{Thread}
-use Rattle.model.specs.Lists.{implies, update, occurs, without}
-use Rattle.model.specs.Shared.{done, nobody, codeOnly, codes, running, sameCode, hasReceive, receiveTime, tickCount}
-use Rattle.model.specs.Threads.{Phase, check, copy, look, phaseOf, phaseNumber, noFlags, senders, departed, ready, lockHeld}
+use Rattle.model.specs.Lists.{update, occurs}
+use Rattle.model.specs.Shared.{done, nobody, codes, running, sameCode, hasReceive, receiveTime}
+use Rattle.model.specs.Threads.{check, copy, look, phaseOf, noFlags, senders, departed, ready}
 use Rattle.model.specs.WellFormed.{isCode, sendsTo}
-use Rattle.model.specs.Step.{Action, abortSend, finishCall, finishSend, abortReceive, received, ownAfter, otherAfter}
-use Rattle.model.proofs.Laws.{same?, implies-made, _and_, all-of-read, all-of-made}
+use Rattle.model.specs.Step.{abortSend, finishCall, finishSend, abortReceive, received, ownAfter, otherAfter}
+use Rattle.model.proofs.Laws.{same?}
 use Rattle.laws.proofs.Lists.{update-same, update-other}
 use Rattle.laws.proofs.Phases.{lock-held-in}
-use Rattle.laws.proofs.Times.{left-from-code}
 use Rattle.laws.proofs.Ready.{ready-read, not-ready}
 use Rattle.laws.proofs.Queues.{senders-departed}
 use Rattle.laws.proofs.Decided.{otherOf}
-use Rattle.invariant.proofs.Flags.{cases, FlagTest, flagsFit, isOneOf}
-use Rattle.invariant.proofs.Own.{operationFits, phaseFits, Own}
+use Rattle.invariant.proofs.Flags.{cases, flagsFit, isOneOf}
+use Rattle.invariant.proofs.Own.{phaseFits, Own}
 use Rattle.invariant.proofs.Facts.{Other, target-other, count-small, queue-small}
 use Rattle.invariant.proofs.Changes.{operation-over, operation-reloaded, release-fits, bare-fits, received-fits, own-departed, own-ended}
 use Rattle.invariant.proofs.Globals.{Queues, Copies, queues-leave, copies-end, copies-free}

@@ -1,17 +1,16 @@
 -- What a thread that is well-formed by itself tells: its partner in a send, and numbers that fit.
 use mathlib.Core.Path.{_≡_, refl}
 use mathlib.Core.Logic.{_≢_}
-use mathlib.Core.Bool.{Bool, true, false, not, _&&_}
+use mathlib.Core.Bool.{true, _&&_}
 use mathlib.Core.List.{[], _∷_}
 use Prim.Native.Nat.{ℕ, _≤_, _<_}
-use lib.Dec.{eqb, leb, ltb}
-use borrow.Author.Tests.{ltb-true, leb-true, eqb-false, not-true, lt-ltb, ne-eqb}
+use borrow.Author.Tests.{ltb-true, leb-true, eqb-false, not-true}
 use Rattle.model.specs.declared.Thread.{Thread}
-use Rattle.model.specs.Lists.{implies, allOf}
-use Rattle.model.specs.Shared.{wordLimit, nobody}
+use Rattle.model.specs.Lists.{implies}
+use Rattle.model.specs.Shared.{wordLimit}
 use Rattle.model.specs.Threads.{copy, release, wake, unlock}
 use Rattle.model.specs.WellFormed.{sendInRange}
-use Rattle.model.proofs.Laws.{and-left, and-right, and-made, implies-read, implies-made, _and_, all-of-read, all-of-made}
+use Rattle.model.proofs.Laws.{and-left, and-right, implies-read, _and_, all-of-read}
 use Rattle.invariant.proofs.Flags.{cases, isOneOf, told-any}
 use Rattle.invariant.proofs.Own.{operationFits, phaseFits, queueFits, Own}
 

@@ -1,11 +1,10 @@
 -- A well-formed table over the function of its threads, and what has to be shown when two threads change.
-use mathlib.Core.Path.{_≡_, refl, sym, ap, _∙_, subst, subst₂, fun-ext}
+use mathlib.Core.Path.{_≡_, refl, sym, _∙_, subst, subst₂, fun-ext}
 use mathlib.Core.Logic.{_≢_}
-use mathlib.Core.Bool.{Bool, true, false, cond}
-use mathlib.Core.List.{List, [], _∷_}
-use Prim.Native.Nat.{ℕ, suc, _≤_, _<_}
+use mathlib.Core.Bool.{true, cond}
+use mathlib.Core.List.{[], _∷_}
+use Prim.Native.Nat.{ℕ, _≤_, _<_}
 use native.Mathlib.Omega.{arith}
-use lib.ListN.{length}
 use lib.Dec.{leb}
 use borrow.Author.Tests.{leb-true}
 use Rattle.model.specs.declared.Thread.{Thread}
@@ -18,7 +17,7 @@ use Rattle.model.proofs.Laws.{by, same?, and-right, implies-read, implies-made}
 use Rattle.laws.proofs.Lists.{update-same, update-other, update-own}
 use Rattle.invariant.proofs.Flags.{cases, isOneOf, told-any}
 use Rattle.invariant.proofs.Own.{Own, Clauses, own-read, own-told}
-use Rattle.invariant.proofs.Facts.{Other, target-other}
+use Rattle.invariant.proofs.Facts.{target-other}
 use Rattle.invariant.proofs.Globals.{Queues, Owners, within, Chains, Copies}
 
 -- a reading of every thread

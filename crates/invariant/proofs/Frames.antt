@@ -1,5 +1,5 @@
 -- What no call changes: the number of threads and the store's length.
-use mathlib.Core.Path.{_≡_, refl, sym, ap, _∙_}
+use mathlib.Core.Path.{_≡_, refl, ap, _∙_}
 use mathlib.Core.Logic.{⊎-elim}
 use mathlib.Core.List.{List}
 use Prim.Native.Nat.{ℕ}
@@ -8,10 +8,9 @@ use Rattle.model.specs.declared.Operation.{Operation}
 use Rattle.model.specs.declared.Thread.{Thread}
 use Rattle.model.specs.declared.Table.{Table}
 use Rattle.model.specs.Shared.{targetBeyond}
-use Rattle.model.specs.Threads.{at, edit, joined, marked, ended}
+use Rattle.model.specs.Threads.{at, edit, joined, marked}
 use Rattle.model.specs.Step.{Action, decide, storeAfter}
 use Rattle.model.specs.Calls.{ticked, beginTable, cancelTable, tickTable, Call, begin, step, cancel, tick, State, acceptedState}
-use Rattle.model.specs.Refusals.{refusal}
 use Rattle.model.specs.Promise.{next}
 use Rattle.model.proofs.Laws.{by}
 use Rattle.laws.proofs.Tables.{edit-n, below-n, act-n}

@@ -1,22 +1,21 @@
 -- Every call keeps a table well-formed, refused or not, from every well-formed table.
-use mathlib.Core.Path.{_≡_, refl, sym, ap, _∙_, subst}
-use mathlib.Core.Logic.{_≢_, ⊎-elim}
+use mathlib.Core.Path.{_≡_, sym, ap, _∙_, subst}
+use mathlib.Core.Logic.{_≢_}
 use mathlib.Core.Bool.{Bool, true, false, _||_}
 use mathlib.Core.List.{[], _∷_}
-use Prim.Native.Nat.{ℕ, zero, suc, _≤_, _<_}
+use Prim.Native.Nat.{ℕ, _<_}
 use native.Mathlib.Omega.{arith}
 use lib.ListN.{length}
-use lib.Dec.{leb}
 use borrow.Author.Tests.{eqb-true, leb-false}
 use Rattle.model.specs.declared.Operation.{Operation}
 use Rattle.model.specs.declared.Thread.{Thread}
 use Rattle.model.specs.declared.Table.{Table}
 use Rattle.model.specs.Lists.{update}
 use Rattle.model.specs.Shared.{nobody, targetBeyond, hasReceive}
-use Rattle.model.specs.Threads.{Phase, idle, lock, look, phaseOf, at, put, edit, editBelow, joined}
+use Rattle.model.specs.Threads.{idle, phaseOf, at, edit, joined}
 use Rattle.model.specs.WellFormed.{inPhase, Shaped, WellFormed, wellFormed}
-use Rattle.model.specs.Step.{decide, act}
-use Rattle.model.specs.Calls.{begun, ticked, beginTable, cancelTable, tickTable, Call, begin, step, cancel, tick, State, acceptedState}
+use Rattle.model.specs.Step.{decide}
+use Rattle.model.specs.Calls.{ticked, beginTable, tickTable, Call, begin, step, cancel, tick, State, acceptedState}
 use Rattle.model.specs.Refusals.{refusal}
 use Rattle.model.specs.Promise.{next}
 use Rattle.model.proofs.Laws.{by}

@@ -1,21 +1,19 @@
 -- The actions of a step by which no operation ends: each keeps the threads well-formed.
-use mathlib.Core.Path.{_≡_, refl, sym, ap, _∙_, subst}
+use mathlib.Core.Path.{_≡_, refl, sym, _∙_, subst}
 use mathlib.Core.Logic.{_≢_}
-use mathlib.Core.Bool.{true≢false, Bool, true, false, not, cond, _&&_}
-use mathlib.Core.List.{[], _∷_}
+use mathlib.Core.Bool.{true≢false, true, false, not}
 use Prim.Native.Nat.{ℕ, _+_, _≤_, _<_}
 use native.Mathlib.Omega.{arith}
 use borrow.Author.Tests.{not-true}
-use Rattle.model.specs.declared.Flags.{Flags}
 use Rattle.model.specs.declared.Thread.{Thread}
 use Rattle.model.specs.Lists.{implies, update, occurs}
 use Rattle.model.specs.Shared.{nobody, hasReceive}
-use Rattle.model.specs.Threads.{Phase, idle, lock, check, copy, release, sleep, look, wake, unlock, phaseOf, phaseNumber, entering, withOwner, senders, ready, lockHeldIn, lockHeld}
+use Rattle.model.specs.Threads.{Phase, idle, lock, check, copy, release, sleep, look, wake, unlock, phaseOf, phaseNumber, entering, withOwner, senders, ready, lockHeld}
 use Rattle.model.specs.WellFormed.{nobodyOrBelow, sendsTo}
 use Rattle.model.specs.Step.{Action, takeLock, startCopy, toRelease, copyWord, freeTarget, retry, toIdle, takeSender, clearPoll, freeSender, ownAfter, otherAfter}
 use Rattle.laws.proofs.Phases.{lock-held-in}
 use Rattle.laws.proofs.Decided.{otherOf}
-use Rattle.invariant.proofs.Flags.{cases, FlagTest, FlagsFit, flagsFit, isOneOf, Follows, told, told-if}
+use Rattle.invariant.proofs.Flags.{cases, FlagTest, FlagsFit, flagsFit, Follows, told, told-if}
 use Rattle.invariant.proofs.Own.{phaseFits, Own}
 use Rattle.invariant.proofs.Facts.{Other, target-other}
 use Rattle.invariant.proofs.Changes.{owner-below, release-fits, copy-fits, wake-fits, unlock-fits, own-owner, own-unpolled, own-entering}

@@ -1,24 +1,22 @@
 -- What well-formed threads tell of one another: who holds a lock, who copies to whom, who waits in a queue.
 use mathlib.Core.Path.{_≡_, refl, sym, ap, _∙_}
 use mathlib.Core.Logic.{_≢_}
-use mathlib.Core.Bool.{Bool, true, false, not, cond, _&&_}
+use mathlib.Core.Bool.{true, false, cond, _&&_}
 use mathlib.Core.List.{[], _∷_}
 use Prim.Native.Nat.{ℕ, _+_, _≤_, _<_}
 use native.Mathlib.Omega.{arith}
-use lib.ListN.{length}
 use lib.Dec.{eqb, ltb}
-use borrow.Author.Tests.{eqb-true, eqb-false, eq-eqb, ne-eqb, ltb-true, lt-ltb, le-ltb, not-true}
+use borrow.Author.Tests.{eq-eqb, ne-eqb, ltb-true, lt-ltb, le-ltb}
 use Rattle.model.specs.declared.Thread.{Thread}
-use Rattle.model.specs.Lists.{implies, bit, occurs}
+use Rattle.model.specs.Lists.{bit, occurs}
 use Rattle.model.specs.Shared.{nobody}
-use Rattle.model.specs.Threads.{Phase, lock, check, copy, release, look, wake, unlock, phaseOf, phaseNumber, senders, ready, lockHeldIn, lockHeld}
+use Rattle.model.specs.Threads.{Phase, lock, check, copy, release, wake, unlock, phaseOf, phaseNumber, senders, lockHeldIn}
 use Rattle.model.specs.WellFormed.{sendsTo}
-use Rattle.model.proofs.Laws.{by, same?, and-left, and-right, implies-read, all-of-read, few-enough}
+use Rattle.model.proofs.Laws.{by, same?, and-left, and-right, few-enough}
 use Rattle.laws.proofs.Lists.{bit-small}
 use Rattle.laws.proofs.Phases.{phase-number, lock-held-in}
 use Rattle.laws.proofs.Queues.{senders-length}
-use Rattle.invariant.proofs.Flags.{cases, FlagTest, Follows, isOneOf, told, told-if, told-any, phase-small}
-use Rattle.invariant.proofs.Own.{phaseFits, Own}
+use Rattle.invariant.proofs.Flags.{cases, Follows, isOneOf, told, phase-small}
 use Rattle.invariant.proofs.Facts.{Other, target-other, queue-small, target-below, woken-below}
 use Rattle.invariant.proofs.Globals.{not-own-owner}
 use Rattle.invariant.proofs.Formed.{Formed, copiesTo}

@@ -1,7 +1,6 @@
 -- What a call leaves alone: the threads from N on, and all words but those of a thread that begins or is copied to.
 use mathlib.Core.Path.{_≡_, refl, sym, ap, _∙_, subst}
 use mathlib.Core.Logic.{_≢_, _⊎_, inl, inr, ⊎-elim}
-use mathlib.Core.Bool.{Bool, true, false, _&&_}
 use mathlib.Core.List.{List}
 use Prim.Native.Nat.{ℕ, _≤_, _<_}
 use native.Mathlib.Omega.{arith}
@@ -13,7 +12,7 @@ use Rattle.model.specs.Lists.{update}
 use Rattle.model.specs.Shared.{targetBeyond}
 use Rattle.model.specs.Threads.{at, edit, joined, wordsAt}
 use Rattle.model.specs.WellFormed.{Shaped}
-use Rattle.model.specs.Step.{Action, copyWord, decide, otherAfter, act, wordCopied, storeAfter}
+use Rattle.model.specs.Step.{copyWord, decide, otherAfter, act, wordCopied, storeAfter}
 use Rattle.model.specs.Calls.{ticked, beginTable, cancelTable, tickTable, Call, begin, step, cancel, tick, State, acceptedState}
 use Rattle.model.specs.Refusals.{refusal}
 use Rattle.model.specs.Promise.{next}

@@ -9,7 +9,6 @@ use borrow.Author.Tests.{ltb-true, ltb-false, leb-true, le-leb}
 use Rattle.model.specs.Lists.{allBelow}
 use Rattle.model.specs.Shared.{never, tickCounts, tickCount, isLeft, fall}
 use Rattle.model.proofs.Laws.{by, all-below-read}
-use Rattle.laws.proofs.Lists.{or-true}
 
 -- `left` may be the ticks of any time code
 pub left-from-code : (code : ℕ) → isLeft (tickCount code) ≡ true

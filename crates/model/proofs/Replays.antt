@@ -7,7 +7,7 @@ use lib.ListN.{replicate}
 use Rattle.model.specs.declared.Receive.the-variants.{Absent}
 use Rattle.model.specs.Threads.{newTable}
 use Rattle.model.specs.WellFormed.{wellFormed}
-use Rattle.model.specs.Calls.{Call, begin, step, cancel, tick, State}
+use Rattle.model.specs.Calls.{Call, begin, cancel, tick, State}
 use Rattle.model.specs.Promise.{state}
 use Rattle.model.specs.Atomic.{firstMachine}
 use Rattle.model.specs.Replay.{agree}
