@@ -1,0 +1,4 @@
+pub mod Stands
+pub mod Demand
+pub mod Places
+pub mod Forced

@@ -1,0 +1,1 @@
+// No code: demand 3, every trace has one linearization.

@@ -1,0 +1,10 @@
+pub mod Abstraction
+pub mod Leads
+pub mod Conditions
+pub mod Copying
+pub mod Aborts
+pub mod Rendezvous
+pub mod Steps
+pub mod Begins
+pub mod Calls
+pub mod First
