@@ -107,7 +107,7 @@ module _ (n : ℕ) (few : n ≤ nobody) (owner : ℕ → ℕ) where
   within-update : (r v : ℕ) → r < n → within n (update owner r v) ≡ update (within n owner) r v
   unfolding within
   within-update r v rn = fun-ext (λ y. same? y r
-      (λ e. rw (e, update-same, update-same, lt-ltb r n rn) refl)
+      (λ e. rw (e, update-same owner r v, update-same (within n owner) r v, lt-ltb r n rn) refl)
       (λ d. rw (update-other owner r v y d, update-other (within n owner) r v y d) refl))
 
   -- x, whose own lock is free, takes the lock of another

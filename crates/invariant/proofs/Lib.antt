@@ -13,3 +13,4 @@ pub mod Frames
 pub mod Keeps
 pub mod New
 pub mod Untouched
+pub mod Traces

@@ -1,23 +1,21 @@
 -- Demand 3: every trace has one linearization, and it is the one that `linearization` computes.
-use mathlib.Core.Path.{_≡_, refl, sym, ap, _∙_, subst}
-use mathlib.Core.Logic.{_≢_}
-use mathlib.Core.List.{List, [], _∷_, map, reverse, reverseAux}
+use mathlib.Core.Path.{_≡_, sym, ap, _∙_, subst}
+use mathlib.Core.List.{List, [], _∷_, map, reverseAux}
 use Prim.Native.Nat.{ℕ, _*_, _≤_, _<_}
-use native.Mathlib.Omega.{arith}
 use lib.ListN.{length}
-use Rattle.model.specs.Answers.{Said, said}
-use Rattle.model.specs.Shared.{running, View}
-use Rattle.model.specs.Threads.{newTable, at, wordsAt}
+use Rattle.model.specs.Answers.{Said}
+use Rattle.model.specs.Shared.{View}
+use Rattle.model.specs.Threads.{newTable}
 use Rattle.model.specs.Calls.{Call, State}
-use Rattle.model.specs.Promise.{next, state, Promise, view}
-use Rattle.model.specs.Atomic.{AtomicThread, Machine, firstMachine, shows}
-use Rattle.model.specs.Linearization.{Observed, Trace, Entry, playEntry, played, AtCall, Allowed, Follows, FollowsAll, Linearizes, Demand3}
+use Rattle.model.specs.Promise.{state, Promise, view}
+use Rattle.model.specs.Atomic.{AtomicThread, Machine, shows}
+use Rattle.model.specs.Linearization.{Observed, Trace, Entry, playEntry, played, AtCall, Follows, FollowsAll, Linearizes, Demand3}
 use Rattle.model.specs.Linearized.{entry, linearization}
 use Rattle.pairing.proofs.Operations.{AllAllowed}
 use Rattle.pairing.proofs.Endings.{ending-begun, shown-ended}
 use Rattle.pairing.proofs.Pairing.{all-paired}
 use Rattle.simulation.proofs.Abstraction.{seems}
-use Rattle.linearization.proofs.Stands.{Stands, first-stands, Goes, goes}
+use Rattle.linearization.proofs.Stands.{Stands, first-stands, goes}
 
 -- the calls of a trace
 abbrev pub callsOf : List Observed → List Call

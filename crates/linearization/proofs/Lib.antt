@@ -1,4 +1,7 @@
 pub mod Stands
 pub mod Demand
-pub mod Places
 pub mod Forced
+pub mod Places
+pub mod Corollaries
+pub mod Replayed
+pub mod Applied

@@ -1,18 +1,17 @@
 -- What is carried along a trace: the table is well-formed, and table and store stand for the atomic machine.
-use mathlib.Core.Path.{_≡_, refl, sym, ap, _∙_, subst, subst₂}
-use mathlib.Core.Option.{none}
+use mathlib.Core.Path.{_≡_, sym, _∙_, subst, subst₂}
 use mathlib.Core.List.{List}
 use Prim.Native.Nat.{ℕ, suc, _*_, _≤_}
 use lib.ListN.{length}
 use Rattle.model.specs.Answers.{Said}
 use Rattle.model.specs.Threads.{newTable, at}
 use Rattle.model.specs.WellFormed.{Shaped}
-use Rattle.model.specs.Calls.{Call, State, acceptedState}
+use Rattle.model.specs.Calls.{Call, State}
 use Rattle.model.specs.Refusals.{refusal}
 use Rattle.model.specs.Promise.{answer, next, state}
 use Rattle.model.specs.Atomic.{Machine, firstMachine}
 use Rattle.model.specs.Linearization.{Entry, playEntry, AtCall, Allowed}
-use Rattle.model.specs.Linearized.{acceptedEntry, entry}
+use Rattle.model.specs.Linearized.{entry}
 use Rattle.laws.proofs.Calls.{accepted?, accepted-next, accepted-answer, accepted-entry, refused-next, refused-answer, refused-entry}
 use Rattle.invariant.proofs.New.{new-size, new-shaped}
 use Rattle.invariant.proofs.Frames.{next-size, next-store-length}
