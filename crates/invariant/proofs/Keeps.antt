@@ -1,7 +1,7 @@
 -- Every call keeps a table well-formed, refused or not, from every well-formed table.
 use mathlib.Core.Path.{_≡_, sym, ap, _∙_, subst}
 use mathlib.Core.Logic.{_≢_}
-use mathlib.Core.Bool.{Bool, true, false, _||_}
+use mathlib.Core.Bool.{true, false}
 use mathlib.Core.List.{[], _∷_}
 use Prim.Native.Nat.{ℕ, _<_}
 use native.Mathlib.Omega.{arith}
@@ -20,6 +20,7 @@ use Rattle.model.specs.Refusals.{refusal}
 use Rattle.model.specs.Promise.{next}
 use Rattle.model.proofs.Laws.{by}
 use Rattle.model.proofs.Tested.{well-formed-tested, well-formed-told}
+use Rattle.laws.proofs.Lists.{or-false}
 use Rattle.laws.proofs.Tables.{edit-at, edit-length, edit-two-at, below-length, act-length}
 use Rattle.laws.proofs.Decided.{lock-free-read}
 use Rattle.laws.proofs.Refusals.{AcceptedBegin, accepted-table, accepted-begin, accepted-step, accepted-cancel}
@@ -37,11 +38,7 @@ pub record Kept (n : ℕ) (after : Table) : Type 0 where
 -- a thread in idle, by the test
 in-idle : (h : Thread) → inPhase (idle ∷ []) h ≡ true → phaseOf (h .phase) ≡ idle
 unfolding inPhase phaseOf
-in-idle h e = ap phaseOf (eqb-true (h .phase) 0 (or-read _ e))
-  where
-    or-read : (b : Bool) → (b || false) ≡ true → b ≡ true
-    or-read true e = e
-    or-read false e = e
+in-idle h e = ap phaseOf (eqb-true (h .phase) 0 (or-false _ e))
 
 module _ (t : Table) (whole : length (t .threads) ≡ 32) (F : Formed (t .n) (at t)) where
   -- one thread is edited

@@ -4,12 +4,13 @@ use mathlib.Core.Bool.{true≢false, true, false, not}
 use mathlib.Core.Option.{none, some}
 use mathlib.Core.List.{List, [], _∷_}
 use Prim.Native.Nat.{ℕ}
-use lib.IntN.{ℤ, pos, negsuc}
+use lib.IntN.{ℤ}
 use borrow.Author.Tests.{eqb-true, eq-eqb, lt-ltb}
-use Rattle.model.specs.Shared.{sameCode, View}
+use Rattle.model.specs.Shared.{View}
 use Rattle.model.specs.Atomic.{Run, nothing, sending, receiving, Machine, Event, begins, cancels, ticks, rendezvous, aborts, runs, QueuedAt, acceptsIn, NoneAcceptable, CanAbort, Can}
 use Rattle.model.specs.Linearization.{Entry, Allowed}
 use Rattle.model.specs.Replay.{sendsNowTo, noneAcceptable, abortTest, canTest, allowedTest, sameWords, sameView}
+use Rattle.laws.proofs.Codes.{code-itself}
 use Rattle.model.proofs.Laws.{implies-made, _and_, all-of-made, all-below-made}
 
 -- ---- conditions
@@ -52,11 +53,6 @@ module _ (n : ℕ) (p : Machine) where
   allowed-tested (some e) h = can-tested e h
 
 -- ---- views
--- a code is the same as itself
-code-itself : (c : ℤ) → sameCode c c ≡ true
-code-itself (pos k) = eq-eqb k k refl
-code-itself (negsuc k) = eq-eqb k k refl
-
 -- words are the same as themselves
 words-themselves : (q : List ℕ) → sameWords q q ≡ true
 unfolding sameWords

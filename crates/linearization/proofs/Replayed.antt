@@ -1,5 +1,5 @@
 -- The computed form of the theorem: replayed on the atomic machine, every list of calls agrees. A machine on which some list does not is none of ours.
-use mathlib.Core.Path.{_≡_, refl}
+use mathlib.Core.Path.{_≡_}
 use mathlib.Core.Bool.{true}
 use mathlib.Core.List.{List, [], _∷_}
 use Prim.Native.Nat.{ℕ, _*_, _≤_}
@@ -12,6 +12,7 @@ use Rattle.model.specs.Linearization.{playEntry}
 use Rattle.model.specs.Linearized.{entry}
 use Rattle.model.specs.Replay.{agree}
 use Rattle.model.proofs.Laws.{_and_, all-of-made, all-below-made}
+use Rattle.model.proofs.Tested.{well-formed-tested}
 use Rattle.laws.proofs.Conditions.{allowed-tested, view-tested}
 use Rattle.linearization.proofs.Stands.{Stands, first-stands, goes}
 use Rattle.linearization.proofs.Demand.{stands-shown}
@@ -19,7 +20,7 @@ use Rattle.linearization.proofs.Demand.{stands-shown}
 -- from a state and the machine for which it stands
 agrees-from : (n : ℕ) (s : State) (p : Machine) → Stands n s p → (cs : List Call) → agree n s p cs ≡ true
 unfolding agree
-agrees-from n s p S [] = refl
+agrees-from n s p S [] = well-formed-tested (s .table) (S .formed)
 agrees-from n s p S (c ∷ cs) =
     let g = goes n c s p S in
     all-of-made _ (

@@ -5,7 +5,7 @@ use Prim.Native.Nat.{ℕ, suc, _*_, _≤_}
 use lib.ListN.{length}
 use Rattle.model.specs.Answers.{Said}
 use Rattle.model.specs.Threads.{newTable, at}
-use Rattle.model.specs.WellFormed.{Shaped}
+use Rattle.model.specs.WellFormed.{Shaped, WellFormed}
 use Rattle.model.specs.Calls.{Call, State}
 use Rattle.model.specs.Refusals.{refusal}
 use Rattle.model.specs.Promise.{answer, next, state}
@@ -13,9 +13,9 @@ use Rattle.model.specs.Atomic.{Machine, firstMachine}
 use Rattle.model.specs.Linearization.{Entry, playEntry, AtCall, Allowed}
 use Rattle.model.specs.Linearized.{entry}
 use Rattle.laws.proofs.Calls.{accepted?, accepted-next, accepted-answer, accepted-entry, refused-next, refused-answer, refused-entry}
-use Rattle.invariant.proofs.New.{new-size, new-shaped}
+use Rattle.invariant.proofs.New.{new-size, new-shaped, new-well-formed}
 use Rattle.invariant.proofs.Frames.{next-size, next-store-length}
-use Rattle.invariant.proofs.Keeps.{accepted-kept, keeps-shaped}
+use Rattle.invariant.proofs.Keeps.{accepted-kept, keeps-shaped, keeps-well-formed}
 use Rattle.simulation.proofs.Leads.{Like, Simulates, Leads}
 use Rattle.simulation.proofs.Calls.{call-leads, call-placed}
 use Rattle.simulation.proofs.First.{first-simulates}
@@ -24,6 +24,7 @@ use Rattle.simulation.proofs.First.{first-simulates}
 pub record Stands (n : ℕ) (s : State) (p : Machine) : Type 0 where
   pub size : s .table .n ≡ n
   pub shaped : Shaped (s .table)
+  pub formed : WellFormed (s .table)
   pub simulates : Simulates (s .table .n) p (at (s .table)) (s .store)
 
 -- a new table stands for the first machine
@@ -31,6 +32,7 @@ pub first-stands : (n : ℕ) → 1 ≤ n → n ≤ 32 → (store : List ℕ) →
 first-stands n one few store fit = record {
   size = new-size n;
   shaped = new-shaped n few;
+  formed = new-well-formed n one few;
   simulates = subst (λ (m : ℕ). Simulates m firstMachine (at (newTable n)) store) (sym (new-size n)) (first-simulates n one few store fit);
 }
 
@@ -54,6 +56,7 @@ module _ (n : ℕ) (c : Call) (s : State) (p : Machine) (S : Stands n s p) where
       stands = record {
         size = next-size c s ∙ S .size;
         shaped = keeps-shaped c s (S .shaped);
+        formed = keeps-well-formed c s (S .shaped) (S .formed);
         simulates = subst (λ (m : ℕ). Simulates m (playEntry n (entry c s) p) (at (next c s .table)) (next c s .store)) (sym (next-size c s)) (record {
           formed = accepted-kept c s (S .shaped) e .formed;
           fit = next-store-length c s ∙ S .simulates .fit;

