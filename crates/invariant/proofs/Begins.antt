@@ -21,7 +21,7 @@ use Rattle.laws.proofs.Phases.{lock-held-in}
 use Rattle.laws.proofs.Times.{left-from-code, left-falls}
 use Rattle.laws.proofs.Ready.{not-ready}
 use Rattle.laws.proofs.Queues.{senders-joined}
-use Rattle.invariant.proofs.Flags.{cases, flagsFit, told-any-if}
+use Rattle.invariant.proofs.Flags.{cases, flagsFit, told-any-if, fitsIn}
 use Rattle.invariant.proofs.Own.{outcomeFits, operationFits, phaseFits, Own}
 use Rattle.invariant.proofs.Changes.{bare-fits, own-joined, own-ended}
 use Rattle.invariant.proofs.Globals.{queues-join, copies-free}
@@ -61,7 +61,7 @@ begun-own n x h o p w l flags phase = record {
 }
 
 -- the flags of a thread that begins to send, with a receive part or without
-lock-flags : (r : Bool) → flagsFit 1 (record { ipc = true; send = true; receiving = r; poll = false; mark = false }) r true ≡ true
+lock-flags : (r : Bool) → fitsIn lock (record { ipc = true; send = true; receiving = r; poll = false; mark = false }) r true ≡ true
 unfolding cases
 lock-flags true = refl
 lock-flags false = refl

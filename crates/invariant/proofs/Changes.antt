@@ -12,7 +12,7 @@ use Rattle.model.specs.declared.Outcome.{Outcome}
 use Rattle.model.specs.declared.Thread.{Thread}
 use Rattle.model.specs.Lists.{implies, allOf, occurs}
 use Rattle.model.specs.Shared.{tickCount, done, nobody, codes, sameCode, wordLimit, codeOnly, running}
-use Rattle.model.specs.Threads.{Phase, noFlags, entering, withOwner, polled, ended, senders, joined, departed, phaseNumber}
+use Rattle.model.specs.Threads.{Phase, noFlags, entering, withOwner, polled, ended, senders, joined, departed, phaseNumber, copy, release, wake, unlock}
 use Rattle.model.specs.WellFormed.{isCode, nobodyOrBelow}
 use Rattle.model.proofs.Laws.{implies-made, _and_, all-of-read, all-of-made}
 use Rattle.laws.proofs.Lists.{or-true}
@@ -40,21 +40,21 @@ operation-reloaded n x ipc o left code e = let (sends, (receives, (time, (target
     all-of-made _ (sends and receives and implies-made ipc _ (λ i. left-from-code code) and target and partner and tt)
 
 -- in release the target is in use
-pub release-fits : (n x : ℕ) (part : SendPart) (copied waking : ℕ) → Other n x (part .target) → phaseFits n x 4 part copied waking ≡ true
+pub release-fits : (n x : ℕ) (part : SendPart) (copied waking : ℕ) → Other n x (part .target) → phaseFits n x (phaseNumber release) part copied waking ≡ true
 unfolding phaseFits cases
 release-fits n x part copied waking r = rw (lt-ltb (part .target) n (r .below), ne-eqb (part .target) x (r .apart)) refl
 
 -- in copy the number of words copied
-pub copy-fits : (n x : ℕ) (part : SendPart) (copied waking : ℕ) → copied ≤ part .count → phaseFits n x 3 part copied waking ≡ true
+pub copy-fits : (n x : ℕ) (part : SendPart) (copied waking : ℕ) → copied ≤ part .count → phaseFits n x (phaseNumber copy) part copied waking ≡ true
 unfolding phaseFits cases
 copy-fits n x part copied waking l = rw (le-leb copied (part .count) l) refl
 
 -- in wake and in unlock the sender being woken
-pub wake-fits : (n x : ℕ) (part : SendPart) (copied waking : ℕ) → waking < n → phaseFits n x 7 part copied waking ≡ true
+pub wake-fits : (n x : ℕ) (part : SendPart) (copied waking : ℕ) → waking < n → phaseFits n x (phaseNumber wake) part copied waking ≡ true
 unfolding phaseFits cases
 wake-fits n x part copied waking l = rw (lt-ltb waking n l) refl
 
-pub unlock-fits : (n x : ℕ) (part : SendPart) (copied waking : ℕ) → waking < n → phaseFits n x 8 part copied waking ≡ true
+pub unlock-fits : (n x : ℕ) (part : SendPart) (copied waking : ℕ) → waking < n → phaseFits n x (phaseNumber unlock) part copied waking ≡ true
 unfolding phaseFits cases
 unlock-fits n x part copied waking l = rw (lt-ltb waking n l) refl
 

@@ -8,7 +8,7 @@ use borrow.Author.Tests.{not-true}
 use Rattle.model.specs.declared.Thread.{Thread}
 use Rattle.model.specs.Lists.{update, occurs}
 use Rattle.model.specs.Shared.{done, nobody, codes, running, sameCode, hasReceive, receiveTime}
-use Rattle.model.specs.Threads.{check, copy, look, phaseOf, noFlags, senders, departed, ready}
+use Rattle.model.specs.Threads.{check, copy, look, phaseOf, noFlags, senders, departed, ready, idle, release}
 use Rattle.model.specs.WellFormed.{isCode, sendsTo}
 use Rattle.model.specs.Step.{abortSend, finishCall, finishSend, abortReceive, received, ownAfter, otherAfter}
 use Rattle.model.proofs.Laws.{same?}
@@ -17,7 +17,7 @@ use Rattle.laws.proofs.Phases.{lock-held-in}
 use Rattle.laws.proofs.Ready.{ready-read, not-ready}
 use Rattle.laws.proofs.Queues.{senders-departed}
 use Rattle.laws.proofs.Decided.{otherOf}
-use Rattle.invariant.proofs.Flags.{cases, flagsFit, isOneOf}
+use Rattle.invariant.proofs.Flags.{cases, isOneOf, fitsIn}
 use Rattle.invariant.proofs.Own.{phaseFits, Own}
 use Rattle.invariant.proofs.Facts.{Other, target-other, count-small, queue-small}
 use Rattle.invariant.proofs.Changes.{operation-over, operation-reloaded, release-fits, bare-fits, received-fits, own-departed, own-ended}
@@ -61,7 +61,7 @@ module _ (n : ℕ) (T : ℕ → Thread) (F : Formed n T) (x : ℕ) (xn : x < n) 
       formed-changed T x target (ownAfter (abortSend c) h) (otherAfter (abortSend c) x h (T target)) n F
       (λ rn. own-departed n target (T target) (F .own target rn) x (queued sends))
       (record {
-        flags = in-phase n T F x xn check p (λ v r s. flagsFit 4 noFlags false s) refl;
+        flags = in-phase n T F x xn check p (λ v r s. fitsIn release noFlags false s) refl;
         outcome = bare-fits n c known over;
         operation = operation-over n x _ (h .left);
         phase = release-fits n x (h .op .send) (h .copied) (h .waking) (to sends);
@@ -82,7 +82,7 @@ module _ (n : ℕ) (T : ℕ → Thread) (F : Formed n T) (x : ℕ) (xn : x < n) 
       formed-changed T x (otherOf (abortReceive c) h) (ownAfter (abortReceive c) h) (otherAfter (abortReceive c) x h (T (otherOf (abortReceive c) h))) n F
       (F .own (otherOf (abortReceive c) h))
       (record {
-        flags = in-phase n T F x xn look p (λ v. flagsFit 0 noFlags) refl;
+        flags = in-phase n T F x xn look p (λ v. fitsIn idle noFlags) refl;
         outcome = bare-fits n c known over;
         operation = operation-over n x (h .op) (h .left);
         phase = refl;
@@ -135,7 +135,7 @@ module _ (n : ℕ) (T : ℕ → Thread) (F : Formed n T) (x : ℕ) (xn : x < n) 
         formed-changed T x target (ownAfter finishCall h) (otherAfter finishCall x h (T target)) n F
         own-received
         (record {
-          flags = in-phase-if n T F x xn copy p (λ v r s. r) (λ v r s. flagsFit 4 (record { ipc = v .ipc; send = false; receiving = v .receiving; poll = false; mark = v .mark }) r s) refl receives;
+          flags = in-phase-if n T F x xn copy p (λ v r s. r) (λ v r s. fitsIn release (record { ipc = v .ipc; send = false; receiving = v .receiving; poll = false; mark = v .mark }) r s) refl receives;
           outcome = w .outcome;
           operation = operation-reloaded n x (h .flags .ipc) (h .op) (h .left) (receiveTime (h .op .receive)) (w .operation);
           phase = release-fits n x (h .op .send) (h .copied) (h .waking) (to sends);
@@ -154,7 +154,7 @@ module _ (n : ℕ) (T : ℕ → Thread) (F : Formed n T) (x : ℕ) (xn : x < n) 
         formed-changed T x target (ownAfter finishSend h) (otherAfter finishSend x h (T target)) n F
         own-received
         (record {
-          flags = in-phase n T F x xn copy p (λ v. flagsFit 4 noFlags) refl;
+          flags = in-phase n T F x xn copy p (λ v. fitsIn release noFlags) refl;
           outcome = bare-fits n done refl refl;
           operation = operation-over n x (h .op) (h .left);
           phase = release-fits n x (h .op .send) (h .copied) (h .waking) (to sends);

@@ -52,6 +52,10 @@ both-read f e false = and-right (f true) (f false) e
 abbrev pub FlagTest : Type 0
 FlagTest = Flags → Bool → Bool → Bool
 
+-- flags that fit phase p
+abbrev pub fitsIn : Phase → FlagTest
+fitsIn p = flagsFit (phaseNumber p)
+
 -- f holds of all flags
 unfoldable pub always : FlagTest → Bool
 always f = both (λ a. both (λ b. both (λ c. both (λ d. both (λ e. both (λ r. both (λ s.

@@ -13,7 +13,7 @@ use Rattle.model.specs.WellFormed.{nobodyOrBelow, sendsTo}
 use Rattle.model.specs.Step.{Action, takeLock, startCopy, toRelease, copyWord, freeTarget, retry, toIdle, takeSender, clearPoll, freeSender, ownAfter, otherAfter}
 use Rattle.laws.proofs.Phases.{lock-held-in}
 use Rattle.laws.proofs.Decided.{otherOf}
-use Rattle.invariant.proofs.Flags.{cases, FlagTest, FlagsFit, flagsFit, Follows, told, told-if}
+use Rattle.invariant.proofs.Flags.{cases, FlagTest, FlagsFit, Follows, told, told-if, fitsIn}
 use Rattle.invariant.proofs.Own.{phaseFits, Own}
 use Rattle.invariant.proofs.Facts.{Other, target-other}
 use Rattle.invariant.proofs.Changes.{owner-below, release-fits, copy-fits, wake-fits, unlock-fits, own-owner, own-unpolled, own-entering}
@@ -62,7 +62,7 @@ module _ (n : ℕ) (T : ℕ → Thread) (F : Formed n T) (x : ℕ) (xn : x < n) 
       formed-changed T x target (ownAfter takeLock h) (otherAfter takeLock x h (T target)) n F
       (taken-other target r mine free empty)
       (record {
-        flags = in-phase lock p (λ v r s. flagsFit 2 (record { ipc = v .ipc; send = v .send; receiving = v .receiving; poll = true; mark = v .mark }) r s) refl;
+        flags = in-phase lock p (λ v r s. fitsIn check (record { ipc = v .ipc; send = v .send; receiving = v .receiving; poll = true; mark = v .mark }) r s) refl;
         outcome = w .outcome;
         operation = w .operation;
         phase = refl;
@@ -90,7 +90,7 @@ module _ (n : ℕ) (T : ℕ → Thread) (F : Formed n T) (x : ℕ) (xn : x < n) 
       formed-changed T x s (ownAfter (takeSender s) h) (otherAfter (takeSender s) x h (T s)) n F
       (taken-other s r mine free empty)
       (record {
-        flags = in-phase look p (flagsFit 7) refl;
+        flags = in-phase look p (fitsIn wake) refl;
         outcome = w .outcome;
         operation = w .operation;
         phase = wake-fits n x (h .op .send) (h .copied) s (r .below);
@@ -126,23 +126,23 @@ module _ (n : ℕ) (T : ℕ → Thread) (F : Formed n T) (x : ℕ) (xn : x < n) 
     -- to sleep
     pub release-to-sleep-keeps : h .flags .send ≡ true → Formed n (afterAction (freeTarget sleep) T x)
     unfolding readings cases phaseFits
-    release-to-sleep-keeps e = released sleep (in-phase-if release p (λ v r s. v .send) (flagsFit 5) refl e) refl refl refl
+    release-to-sleep-keeps e = released sleep (in-phase-if release p (λ v r s. v .send) (fitsIn sleep) refl e) refl refl refl
 
     -- to look
     pub release-to-look-keeps : h .flags .send ≡ false → Formed n (afterAction (freeTarget look) T x)
     unfolding readings cases phaseFits
-    release-to-look-keeps e = released look (in-phase-if release p (λ v r s. not (v .send)) (flagsFit 6) refl (rw e refl)) refl refl refl
+    release-to-look-keeps e = released look (in-phase-if release p (λ v r s. not (v .send)) (fitsIn look) refl (rw e refl)) refl refl refl
 
     -- to idle
     pub release-to-idle-keeps : h .flags .ipc ≡ false → Formed n (afterAction (freeTarget idle) T x)
     unfolding readings cases phaseFits
-    release-to-idle-keeps e = released idle (in-phase-if release p (λ v r s. not (v .ipc)) (flagsFit 0) refl (rw e refl)) refl refl refl
+    release-to-idle-keeps e = released idle (in-phase-if release p (λ v r s. not (v .ipc)) (fitsIn idle) refl (rw e refl)) refl refl refl
 
   -- unlock: of the sender that it has woken
   pub free-sender-keeps : phaseOf (h .phase) ≡ unlock → Formed n (afterAction freeSender T x)
   unfolding ownAfter otherAfter readings cases phaseFits
   free-sender-keeps p = freed-keeps (h .waking) (woken-in-unlock n T F x xn p) (lock-held-in h unlock p) (copies-in n T F x xn unlock p) look
-      (in-phase unlock p (flagsFit 6) refl) refl refl refl
+      (in-phase unlock p (fitsIn look) refl) refl refl refl
 
   -- ---- x changes no lock
   -- check: it starts to copy to a target that is ready
@@ -153,7 +153,7 @@ module _ (n : ℕ) (T : ℕ → Thread) (F : Formed n T) (x : ℕ) (xn : x < n) 
       formed-changed T x target (ownAfter startCopy h) (otherAfter startCopy x h (T target)) n F
       (F .own target)
       (record {
-        flags = in-phase check p (flagsFit 3) refl;
+        flags = in-phase check p (fitsIn copy) refl;
         outcome = w .outcome;
         operation = w .operation;
         phase = copy-fits n x (h .op .send) 0 (h .waking) (omega arith);
@@ -170,7 +170,7 @@ module _ (n : ℕ) (T : ℕ → Thread) (F : Formed n T) (x : ℕ) (xn : x < n) 
       let w : Own n x h = F .own x xn in
       formed-changed T x target (ownAfter toRelease h) (otherAfter toRelease x h (T target)) n F
       (F .own target)
-      (own-entering n x h w release (in-phase check p (flagsFit 4) refl)
+      (own-entering n x h w release (in-phase check p (fitsIn release) refl)
       (release-fits n x (h .op .send) (h .copied) (h .waking) (target-other n x h w (sends-in-check n T F x xn p))))
       (kept refl refl) (kept refl (sym (lock-held-in h check p))) (kept refl refl) (kept refl refl) (kept refl (sym (copies-in n T F x xn check p))) (kept refl refl)
       (F .queues) (F .owners) (F .chains) (F .copies)
@@ -199,7 +199,7 @@ module _ (n : ℕ) (T : ℕ → Thread) (F : Formed n T) (x : ℕ) (xn : x < n) 
   retry-keeps p =
       formed-changed T x (otherOf retry h) (ownAfter retry h) (otherAfter retry x h (T (otherOf retry h))) n F
       (F .own (otherOf retry h))
-      (own-entering n x h (F .own x xn) lock (in-phase sleep p (flagsFit 1) refl) refl)
+      (own-entering n x h (F .own x xn) lock (in-phase sleep p (fitsIn lock) refl) refl)
       (kept refl refl) (kept refl (sym (lock-held-in h sleep p))) (kept refl refl) (kept refl refl) (kept refl (sym (copies-in n T F x xn sleep p))) (kept refl refl)
       (F .queues) (F .owners) (F .chains) (F .copies)
 
@@ -209,7 +209,7 @@ module _ (n : ℕ) (T : ℕ → Thread) (F : Formed n T) (x : ℕ) (xn : x < n) 
   to-idle-keeps p over =
       formed-changed T x (otherOf toIdle h) (ownAfter toIdle h) (otherAfter toIdle x h (T (otherOf toIdle h))) n F
       (F .own (otherOf toIdle h))
-      (own-entering n x h (F .own x xn) idle (in-phase-if look p (λ v r s. not (v .ipc)) (flagsFit 0) refl (rw over refl)) refl)
+      (own-entering n x h (F .own x xn) idle (in-phase-if look p (λ v r s. not (v .ipc)) (fitsIn idle) refl (rw over refl)) refl)
       (kept refl refl) (kept refl (sym (lock-held-in h look p))) (kept refl refl) (kept refl refl) (kept refl (sym (copies-in n T F x xn look p))) (kept refl refl)
       (F .queues) (F .owners) (F .chains) (F .copies)
 
@@ -219,7 +219,7 @@ module _ (n : ℕ) (T : ℕ → Thread) (F : Formed n T) (x : ℕ) (xn : x < n) 
   clear-poll-keeps p =
       formed-changed T x (h .waking) (ownAfter clearPoll h) (otherAfter clearPoll x h (T (h .waking))) n F
       (λ rn. own-unpolled n (h .waking) (T (h .waking)) (F .own (h .waking) rn))
-      (own-entering n x h (F .own x xn) unlock (in-phase wake p (flagsFit 8) refl)
+      (own-entering n x h (F .own x xn) unlock (in-phase wake p (fitsIn unlock) refl)
       (unlock-fits n x (h .op .send) (h .copied) (h .waking) (woken-in-wake n T F x xn p .below)))
       (kept refl refl) (kept refl (sym (lock-held-in h wake p))) (kept refl refl) (kept refl refl) (kept refl (sym (copies-in n T F x xn wake p))) (kept refl refl)
       (F .queues) (F .owners) (F .chains) (F .copies)

@@ -90,7 +90,7 @@ module _ (n : ℕ) (T : ℕ → Thread) (F : Formed n T) where
 
   -- ---- copies
   -- a thread that copies is in copy
-  copies-phase : (y : ℕ) → copiesTo (T y) ≢ nobody → T y .phase ≡ 3
+  copies-phase : (y : ℕ) → copiesTo (T y) ≢ nobody → T y .phase ≡ phaseNumber copy
   unfolding copiesTo isOneOf
   copies-phase y d = by (isOneOf (copy ∷ []) (T y .phase))
       (λ e. same? (T y .phase) 3 (λ i. i) (λ k. absurd (d (rw (ne-eqb (T y .phase) 3 k) refl))))
@@ -101,7 +101,7 @@ module _ (n : ℕ) (T : ℕ → Thread) (F : Formed n T) where
   unfolding copiesTo phaseOf isOneOf
   copier r y rn yn e =
       let l = few in
-      let k : T y .phase ≡ 3 = copies-phase y (λ i. let z : r ≡ nobody = sym e ∙ i in omega arith) in
+      let k : T y .phase ≡ phaseNumber copy = copies-phase y (λ i. let z : r ≡ nobody = sym e ∙ i in omega arith) in
       F .owners r y rn yn .1 (lock-held-in (T y) copy (ap phaseOf k) ∙ sym (copies-in y yn copy (ap phaseOf k)) ∙ e)
 
   -- to a thread whose lock is free nobody copies
