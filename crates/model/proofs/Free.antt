@@ -93,5 +93,4 @@ pub no-record : (first : Bool) (bytes : List ℕ) (g : ℕ) → decodeRefusal fi
 unfolding decode unless
 no-record first bytes g e = rw e refl
 
--- 12. threads from N on: what they were when the table was made. A call changes its own thread and threads that a well-formed table names;
--- that these are below N is a theorem to come
+-- 12. threads from N on: what they were when the table was made, since no call changes them; that is `next-beyond` of the crate `invariant`
