@@ -15,7 +15,7 @@ use Rattle.model.proofs.Computing.{computing}
 
 -- a trace, by what it shows
 pub data Name : Type 0 where
-  ready-at-time-0 marked-receiver receiver-still-sending new-time-for-the-receive mark-kept-past-the-send received-in-wake words-of-two-messages : Name
+  ready-at-time-0 marked-receiver receiver-still-sending new-time-for-the-receive mark-kept-past-the-send receive-dropped-with-the-send received-in-wake words-of-two-messages : Name
 
 -- its calls, on a new table of three threads
 unfoldable pub calls : Name → List Call
@@ -30,6 +30,8 @@ calls new-time-for-the-receive = begin 1 (receiveOnly (openFor 15)) ∷ begin 0 
 -- a call is cancelled while it copies; then 2 sends to it
 calls mark-kept-past-the-send =
     begin 1 (receiveOnly (openFor 15)) ∷ begin 0 (sendTo 1 (250 ∷ []) 15 (openFor 15)) ∷ steps 2 0 ++ cancel 0 ∷ steps 3 0 ++ begin 2 (sendTo 0 (9 ∷ []) 15 Absent) ∷ steps 5 2
+-- the send part of a call is aborted, and its receive part with it
+calls receive-dropped-with-the-send = begin 0 (sendTo 1 (250 ∷ []) 0 (openFor 15)) ∷ steps 3 0 ++ begin 2 (sendTo 0 (9 ∷ []) 15 Absent) ∷ steps 4 2
 -- 1 is waking 0 when 2 delivers to it
 calls received-in-wake =
     begin 0 (sendTo 1 (250 ∷ []) 15 Absent) ∷ steps 3 0 ++ begin 1 (receiveOnly (openFor 15)) ∷ steps 1 1 ++ begin 2 (sendTo 1 (9 ∷ []) 15 Absent) ∷ steps 5 2 ++ steps 3 1 ++ steps 4 0
@@ -49,5 +51,6 @@ replays marked-receiver = refl
 replays receiver-still-sending = refl
 replays new-time-for-the-receive = refl
 replays mark-kept-past-the-send = refl
+replays receive-dropped-with-the-send = refl
 replays received-in-wake = refl
 replays words-of-two-messages = refl
