@@ -71,7 +71,7 @@ sending-busy : (r : Bool) → (true && r && not true) ≡ false
 sending-busy true = refl
 sending-busy false = refl
 
-module _ (n : ℕ) (T : ℕ → Thread) (F : Formed n T) (x : ℕ) (xn : x < n) (mine : T x .owner ≡ nobody) where
+module _ {n : ℕ} {T : ℕ → Thread} (F : Formed n T) (x : ℕ) (xn : x < n) (mine : T x .owner ≡ nobody) where
   abbrev h : Thread
   h = T x
 
@@ -79,11 +79,11 @@ module _ (n : ℕ) (T : ℕ → Thread) (F : Formed n T) (x : ℕ) (xn : x < n) 
   module _ (rest : phaseOf (h .phase) ≡ idle) where
     quiet : h .flags .send ≡ false
     unfolding cases
-    quiet = not-true _ (in-phase n T F x xn idle rest (λ v r s. not (v .send)) refl)
+    quiet = not-true _ (in-phase F x xn idle rest (λ v r s. not (v .send)) refl)
 
     not-waiting : _≡_ {A = ℕ → Bool} (ready h) (λ s. false)
     unfolding cases
-    not-waiting = fun-ext (not-ready h (not-true _ (in-phase n T F x xn idle rest (λ v r s. not (v .ipc && v .receiving && not (v .send))) refl)))
+    not-waiting = fun-ext (not-ready h (not-true _ (in-phase F x xn idle rest (λ v r s. not (v .ipc && v .receiving && not (v .send))) refl)))
 
     silent : _≡_ {A = ℕ → Bool} (λ u. false) (sendsTo h)
     silent = fun-ext (λ u. sym (sends-nowhere h quiet u))
@@ -95,11 +95,11 @@ module _ (n : ℕ) (T : ℕ → Thread) (F : Formed n T) (x : ℕ) (xn : x < n) 
     begin-send-keeps o l sends rn =
         let r : ℕ = o .send .target in
         let f : Thread = begun o lock h in
-        let room = queue-room n T F x r xn rn quiet in
-        formed-changed T x r f (joined x (T r)) n F
-        (λ rn. own-joined n r (T r) (F .own r rn) x room)
+        let room = queue-room F x r xn rn quiet in
+        formed-changed F x r f (joined x (T r))
+        (λ rn. own-joined (F .own r rn) x room)
         (begun-own n x h o lock (F .own x xn) l (rw sends (lock-flags (hasReceive (o .receive)))) refl)
-        (kept refl refl) (kept refl (sym (lock-held-in h idle rest))) (here refl) (there (l .target sends) refl) (kept refl (sym (copies-in n T F x xn idle rest)))
+        (kept refl refl) (kept refl (sym (lock-held-in h idle rest))) (here refl) (there (l .target sends) refl) (kept refl (sym (copies-in F x xn idle rest)))
         (kept refl (fun-ext (not-ready f (rw sends (sending-busy (hasReceive (o .receive))))) ∙ sym not-waiting))
         (queues-join n (of sendsTo T) (of senders T) x r _ _ xn rn (sends-nowhere h quiet) (λ u. rw sends refl)
         (senders-joined x (T r) (F .own r rn .items) room) (F .queues))
@@ -109,28 +109,28 @@ module _ (n : ℕ) (T : ℕ → Thread) (F : Formed n T) (x : ℕ) (xn : x < n) 
     pub begin-receive-keeps : (o : Operation) → CanBegin n x o → o .send .present ≡ false → hasReceive (o .receive) ≡ true → Formed n (update T x (begun o look h))
     unfolding begun begunFlags readings cases phaseFits
     begin-receive-keeps o l none receives =
-        formed-one T x (begun o look h) n F
+        formed-one F x (begun o look h)
         (begun-own n x h o look (F .own x xn) l (rw (none, receives) refl) refl)
-        (kept refl refl) (kept refl (sym (lock-held-in h idle rest))) (kept refl (fun-ext (λ u. rw none refl) ∙ silent)) (kept refl refl) (kept refl (sym (copies-in n T F x xn idle rest))) (here refl)
+        (kept refl refl) (kept refl (sym (lock-held-in h idle rest))) (kept refl (fun-ext (λ u. rw none refl) ∙ silent)) (kept refl refl) (kept refl (sym (copies-in F x xn idle rest))) (here refl)
         (F .queues) (F .owners) (F .chains)
-        (copies-free n (of copiesTo T) (of ready T) x _ (no-copier n T F x xn mine) (F .copies))
+        (copies-free n (of copiesTo T) (of ready T) x _ (no-copier F x xn mine) (F .copies))
 
     -- to a target that does not exist
     pub begin-beyond-keeps : Formed n (update T x (ended (codeOnly noReceiver) h))
     unfolding readings isCode
     begin-beyond-keeps =
-        formed-one T x (ended (codeOnly noReceiver) h) n F
-        (own-ended n x h (F .own x xn) quiet _ (bare-fits n noReceiver refl refl))
+        formed-one F x (ended (codeOnly noReceiver) h)
+        (own-ended (F .own x xn) quiet _ (bare-fits n noReceiver refl refl))
         (kept refl refl) (kept refl refl) (kept refl silent) (kept refl refl) (kept refl refl) (here refl)
         (F .queues) (F .owners) (F .chains)
-        (copies-free n (of copiesTo T) (of ready T) x _ (no-copier n T F x xn mine) (F .copies))
+        (copies-free n (of copiesTo T) (of ready T) x _ (no-copier F x xn mine) (F .copies))
 
   -- ---- cancel of a running operation
   pub cancel-keeps : h .flags .ipc ≡ true → Formed n (update T x (marked h))
   unfolding readings cases
   cancel-keeps runs =
       let w : Own n x h = F .own x xn in
-      formed-one T x (marked h) n F
+      formed-one F x (marked h)
       (record {
         flags = told-any-if h (w .flags) (λ k v r s. v .ipc)
             (λ k v r s. flagsFit k (record { ipc = v .ipc; send = v .send; receiving = v .receiving; poll = v .poll; mark = true }) r s) refl runs;
@@ -142,7 +142,7 @@ module _ (n : ℕ) (T : ℕ → Thread) (F : Formed n T) (x : ℕ) (xn : x < n) 
       })
       (kept refl refl) (kept refl refl) (kept refl refl) (kept refl refl) (kept refl refl) (here refl)
       (F .queues) (F .owners) (F .chains)
-      (copies-free n (of copiesTo T) (of ready T) x _ (no-copier n T F x xn mine) (F .copies))
+      (copies-free n (of copiesTo T) (of ready T) x _ (no-copier F x xn mine) (F .copies))
 
 -- ---- tick
 -- `left` of a running thread may fall
@@ -155,7 +155,7 @@ tick-one-keeps : (n : ℕ) (T : ℕ → Thread) (F : Formed n T) (x : ℕ) → x
 unfolding ticked readings
 tick-one-keeps n T F x xn =
     let w : Own n x (T x) = F .own x xn in
-    formed-one T x (ticked (T x)) n F
+    formed-one F x (ticked (T x))
     (record {
       flags = w .flags;
       outcome = w .outcome;

@@ -69,7 +69,7 @@ unfolding outcomeFits allOf isCode nobodyOrBelow
 received-fits n s count sn l = rw (lt-ltb s n sn, or-true (eqb s nobody), le-leb count wordLimit l) refl
 
 -- ---- threads
-module _ (n x : ℕ) (h : Thread) (w : Own n x h) where
+module _ {n x : ℕ} {h : Thread} (w : Own n x h) where
   -- its lock has another owner
   pub own-owner : (v : ℕ) → nobodyOrBelow n v ≡ true → Own n x (withOwner v h)
   unfolding queueFits
@@ -91,7 +91,7 @@ module _ (n x : ℕ) (h : Thread) (w : Own n x h) where
   -- a sender leaves its queue
   pub own-departed : (s : ℕ) → 1 ≤ occurs s (senders h) → Own n x (departed s h)
   unfolding departed queueFits
-  own-departed s there = let (queued, (owner, end)) = all-of-read _ (w .queue) in let small = queue-small n x h w in
+  own-departed s there = let (queued, (owner, end)) = all-of-read _ (w .queue) in let small = queue-small w in
       record {
         flags = w .flags;
         outcome = w .outcome;

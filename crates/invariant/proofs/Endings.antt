@@ -17,16 +17,17 @@ use Rattle.laws.proofs.Phases.{lock-held-in}
 use Rattle.laws.proofs.Ready.{ready-read, not-ready}
 use Rattle.laws.proofs.Queues.{senders-departed}
 use Rattle.laws.proofs.Decided.{otherOf}
-use Rattle.invariant.proofs.Flags.{cases, isOneOf, fitsIn}
+use Rattle.invariant.proofs.Flags.{cases, fitsIn}
 use Rattle.invariant.proofs.Own.{phaseFits, Own}
 use Rattle.invariant.proofs.Facts.{Other, target-other, count-small, queue-small}
 use Rattle.invariant.proofs.Changes.{operation-over, operation-reloaded, release-fits, bare-fits, received-fits, own-departed, own-ended}
 use Rattle.invariant.proofs.Globals.{Queues, Copies, queues-leave, copies-end, copies-free}
 use Rattle.invariant.proofs.Formed.{owner, copiesTo, readings, of, Formed, kept, here, there, both, formed-changed}
-use Rattle.invariant.proofs.Neighbours.{few, copies-in, sends-to, sends-nowhere, sends-in-check, sends-in-copy, queued-at-target, copier, no-copier}
+use Rattle.invariant.proofs.Neighbours.{few, copies-in, sends-to, sends-nowhere, sends-in-check, sends-in-copy, queued-at-target, no-copier}
+use Rattle.invariant.proofs.Receivers.{receiver-ready, copies-alone}
 use Rattle.invariant.proofs.Moves.{afterAction, in-phase, in-phase-if}
 
-module _ (n : ℕ) (T : ℕ → Thread) (F : Formed n T) (x : ℕ) (xn : x < n) where
+module _ {n : ℕ} {T : ℕ → Thread} (F : Formed n T) (x : ℕ) (xn : x < n) where
   abbrev h : Thread
   h = T x
 
@@ -36,16 +37,16 @@ module _ (n : ℕ) (T : ℕ → Thread) (F : Formed n T) (x : ℕ) (xn : x < n) 
   -- ---- x, which sends, leaves its target's queue
   module _ (sends : h .flags .send ≡ true) where
     queued : 1 ≤ occurs x (senders (T target))
-    queued = queued-at-target n T F x xn sends
+    queued = queued-at-target F x xn sends
 
     to : Other n x target
-    to = target-other n x h (F .own x xn) sends
+    to = target-other (F .own x xn) sends
 
     left-queues : (now : ℕ → Bool) → ((u : ℕ) → now u ≡ false) → Queues n (update (of sendsTo T) x now) (update (of senders T) target (senders (departed x (T target))))
     left-queues now silent =
         let w : Own n target (T target) = F .own target (to .below) in
         queues-leave n (of sendsTo T) (of senders T) x target now _ xn (to .below) (sends-to h sends) silent
-        (senders-departed x (T target) (w .items) (queue-small n target (T target) w) queued) (F .queues)
+        (senders-departed x (T target) (w .items) (queue-small w) queued) (F .queues)
 
   -- a thread whose flags say so is ready for nobody
   unready : (g : Thread) → (g .flags .ipc && g .flags .receiving && not (g .flags .send)) ≡ false → _≡_ {A = ℕ → Bool} (ready g) (λ s. false)
@@ -56,19 +57,19 @@ module _ (n : ℕ) (T : ℕ → Thread) (F : Formed n T) (x : ℕ) (xn : x < n) 
   unfolding ownAfter otherAfter departed readings cases
   abort-send-keeps c known over p =
       let w : Own n x h = F .own x xn in
-      let sends : h .flags .send ≡ true = sends-in-check n T F x xn p in
-      let busy : (h .flags .ipc && h .flags .receiving && not (h .flags .send)) ≡ false = not-true _ (in-phase n T F x xn check p (λ v r s. not (v .ipc && v .receiving && not (v .send))) refl) in
-      formed-changed T x target (ownAfter (abortSend c) h) (otherAfter (abortSend c) x h (T target)) n F
-      (λ rn. own-departed n target (T target) (F .own target rn) x (queued sends))
+      let sends : h .flags .send ≡ true = sends-in-check F x xn p in
+      let busy : (h .flags .ipc && h .flags .receiving && not (h .flags .send)) ≡ false = not-true _ (in-phase F x xn check p (λ v r s. not (v .ipc && v .receiving && not (v .send))) refl) in
+      formed-changed F x target (ownAfter (abortSend c) h) (otherAfter (abortSend c) x h (T target))
+      (λ rn. own-departed (F .own target rn) x (queued sends))
       (record {
-        flags = in-phase n T F x xn check p (λ v r s. fitsIn release noFlags false s) refl;
+        flags = in-phase F x xn check p (λ v r s. fitsIn release noFlags false s) refl;
         outcome = bare-fits n c known over;
         operation = operation-over n x _ (h .left);
         phase = release-fits n x (h .op .send) (h .copied) (h .waking) (to sends);
         queue = w .queue;
         items = w .items;
       })
-      (kept refl refl) (kept refl (sym (lock-held-in h check p))) (here refl) (there (to sends .apart) refl) (kept refl (sym (copies-in n T F x xn check p)))
+      (kept refl refl) (kept refl (sym (lock-held-in h check p))) (here refl) (there (to sends .apart) refl) (kept refl (sym (copies-in F x xn check p)))
       (kept refl (unready (ownAfter (abortSend c) h) refl ∙ sym (unready h busy)))
       (left-queues sends _ (λ u. refl))
       (F .owners) (F .chains) (F .copies)
@@ -78,64 +79,57 @@ module _ (n : ℕ) (T : ℕ → Thread) (F : Formed n T) (x : ℕ) (xn : x < n) 
   unfolding ownAfter otherAfter readings cases phaseFits
   abort-receive-keeps c known over p mine =
       let w : Own n x h = F .own x xn in
-      let quiet : h .flags .send ≡ false = not-true _ (in-phase n T F x xn look p (λ v r s. not (v .send)) refl) in
-      formed-changed T x (otherOf (abortReceive c) h) (ownAfter (abortReceive c) h) (otherAfter (abortReceive c) x h (T (otherOf (abortReceive c) h))) n F
+      let quiet : h .flags .send ≡ false = not-true _ (in-phase F x xn look p (λ v r s. not (v .send)) refl) in
+      formed-changed F x (otherOf (abortReceive c) h) (ownAfter (abortReceive c) h) (otherAfter (abortReceive c) x h (T (otherOf (abortReceive c) h)))
       (F .own (otherOf (abortReceive c) h))
       (record {
-        flags = in-phase n T F x xn look p (λ v. fitsIn idle noFlags) refl;
+        flags = in-phase F x xn look p (λ v. fitsIn idle noFlags) refl;
         outcome = bare-fits n c known over;
         operation = operation-over n x (h .op) (h .left);
         phase = refl;
         queue = w .queue;
         items = w .items;
       })
-      (kept refl refl) (kept refl (sym (lock-held-in h look p))) (kept refl (fun-ext (λ u. sym (sends-nowhere h quiet u)))) (kept refl refl) (kept refl (sym (copies-in n T F x xn look p))) (here refl)
+      (kept refl refl) (kept refl (sym (lock-held-in h look p))) (kept refl (fun-ext (λ u. sym (sends-nowhere h quiet u)))) (kept refl refl) (kept refl (sym (copies-in F x xn look p))) (here refl)
       (F .queues) (F .owners) (F .chains)
-      (copies-free n (of copiesTo T) (of ready T) x _ (no-copier n T F x xn mine) (F .copies))
+      (copies-free n (of copiesTo T) (of ready T) x _ (no-copier F x xn mine) (F .copies))
 
   -- ---- copy: its message is delivered, with a receive part or without
   module _ (p : phaseOf (h .phase) ≡ copy) (mine : h .owner ≡ nobody) where
     sends : h .flags .send ≡ true
-    sends = sends-in-copy n T F x xn p
-
-    -- the receiver is ready
-    pub receiver-ready : ready (T target) x ≡ true
-    unfolding isOneOf
-    receiver-ready = rw (copies-in n T F x xn copy p) at (F .copies x xn (rw (copies-in n T F x xn copy p) (to sends .below)))
+    sends = sends-in-copy F x xn p
 
     -- x copies to nobody any more, and neither x nor its target is copied to
     copies-over : (a b : ℕ → Bool) → Copies n (update (of copiesTo T) x nobody) (update (update (of ready T) target a) x b)
-    unfolding isOneOf
     copies-over a b =
-        let l = few n T F in
+        let l = few F in
         let below = to sends .below in
         copies-free n (update (of copiesTo T) x nobody) (update (of ready T) target a) x b
-        (λ y yn. same? y x (λ e. rw (e, update-same) (omega arith)) (λ d. rw (update-other (of copiesTo T) x nobody y d) (no-copier n T F x xn mine y yn)))
+        (λ y yn. same? y x (λ e. rw (e, update-same) (omega arith)) (λ d. rw (update-other (of copiesTo T) x nobody y d) (no-copier F x xn mine y yn)))
         (copies-free n (update (of copiesTo T) x nobody) (of ready T) target a
-        (λ y yn. same? y x (λ e. rw (e, update-same) (omega arith))
-        (λ d. rw (update-other (of copiesTo T) x nobody y d) (λ e. d (sym (copier n T F target y below yn e) ∙ copier n T F target x below xn (copies-in n T F x xn copy p)))))
+        (λ y yn. same? y x (λ e. rw (e, update-same) (omega arith)) (λ d. rw (update-other (of copiesTo T) x nobody y d) (copies-alone F x xn p y yn d)))
         (copies-end n (of copiesTo T) (of ready T) x l (F .copies)))
 
     -- the receiver's operation ends
     own-received : target < n → Own n target (received x h (T target))
     unfolding received departed
     own-received rn =
-        own-ended n target (departed x (T target)) (own-departed n target (T target) (F .own target rn) x (queued sends))
-        (ready-read (T target) x receiver-ready .notSending) _ (received-fits n x (h .op .send .count) xn (count-small n x h (F .own x xn) sends))
+        own-ended (own-departed (F .own target rn) x (queued sends))
+        (ready-read (T target) x (receiver-ready F x xn p) .notSending) _ (received-fits n x (h .op .send .count) xn (count-small (F .own x xn) sends))
 
     -- it sent to nobody and does not now
     receiver-silent : _≡_ {A = ℕ → Bool} (λ u. false) (sendsTo (T target))
-    receiver-silent = fun-ext (λ u. sym (sends-nowhere (T target) (ready-read (T target) x receiver-ready .notSending) u))
+    receiver-silent = fun-ext (λ u. sym (sends-nowhere (T target) (ready-read (T target) x (receiver-ready F x xn p) .notSending) u))
 
     -- with a receive part
     pub finish-call-keeps : hasReceive (h .op .receive) ≡ true → Formed n (afterAction finishCall T x)
     unfolding ownAfter otherAfter received departed readings cases
     finish-call-keeps receives =
         let w : Own n x h = F .own x xn in
-        formed-changed T x target (ownAfter finishCall h) (otherAfter finishCall x h (T target)) n F
+        formed-changed F x target (ownAfter finishCall h) (otherAfter finishCall x h (T target))
         own-received
         (record {
-          flags = in-phase-if n T F x xn copy p (λ v r s. r) (λ v r s. fitsIn release (record { ipc = v .ipc; send = false; receiving = v .receiving; poll = false; mark = v .mark }) r s) refl receives;
+          flags = in-phase-if F x xn copy p (λ v r s. r) (λ v r s. fitsIn release (record { ipc = v .ipc; send = false; receiving = v .receiving; poll = false; mark = v .mark }) r s) refl receives;
           outcome = w .outcome;
           operation = operation-reloaded n x (h .flags .ipc) (h .op) (h .left) (receiveTime (h .op .receive)) (w .operation);
           phase = release-fits n x (h .op .send) (h .copied) (h .waking) (to sends);
@@ -151,10 +145,10 @@ module _ (n : ℕ) (T : ℕ → Thread) (F : Formed n T) (x : ℕ) (xn : x < n) 
     unfolding ownAfter otherAfter received departed readings cases isCode
     finish-send-keeps =
         let w : Own n x h = F .own x xn in
-        formed-changed T x target (ownAfter finishSend h) (otherAfter finishSend x h (T target)) n F
+        formed-changed F x target (ownAfter finishSend h) (otherAfter finishSend x h (T target))
         own-received
         (record {
-          flags = in-phase n T F x xn copy p (λ v. fitsIn release noFlags) refl;
+          flags = in-phase F x xn copy p (λ v. fitsIn release noFlags) refl;
           outcome = bare-fits n done refl refl;
           operation = operation-over n x (h .op) (h .left);
           phase = release-fits n x (h .op .send) (h .copied) (h .waking) (to sends);

@@ -19,7 +19,7 @@ pub record Other (n x r : ℕ) : Type 0 where
   pub below : r < n
   pub apart : r ≢ x
 
-module _ (n x : ℕ) (h : Thread) (w : Own n x h) where
+module _ {n x : ℕ} {h : Thread} (w : Own n x h) where
   -- a thread that sends runs an operation with a send part
   sends-with : h .flags .send ≡ true → (h .flags .ipc && h .op .send .present) ≡ true
   unfolding cases

@@ -97,7 +97,7 @@ module _ (t : Table) (size : sizeInRange (t .n) ≡ true) (F : Formed (t .n) (at
   unfolding copiesTo copiesToReady inPhase cases
   copies-told x xn = implies-made _ _ (λ (e : isOneOf (copy ∷ []) (at t x .phase) ≡ true).
       let sends : at t x .flags .send ≡ true = implies-read _ _ (told-any (at t x) (F .own x xn .flags) (λ k v r s. implies (isOneOf (copy ∷ []) k) (v .send)) refl) e in
-      rw e at (F .copies x xn (rw e (target-other (t .n) x (at t x) (F .own x xn) sends .below))))
+      rw e at (F .copies x xn (rw e (target-other (F .own x xn) sends .below))))
 
   pub formed-told : WellFormed t
   unfolding ownerOf within
@@ -163,32 +163,33 @@ module _ (T : ℕ → Thread) (x r : ℕ) (f g : Thread) where
       elsewhere (there d′ k) y d e = sym (update-other (of P T) r (P g) y e)
       elsewhere both y d e = sym (update-other (update (of P T) r (P g)) x (P f) y d ∙ update-other (of P T) r (P g) y e)
 
+module _ {n : ℕ} {T : ℕ → Thread} (F : Formed n T) (x : ℕ) where
   -- the threads stay well-formed if both do and the clauses hold of the readings afterwards
-  pub formed-changed : (n : ℕ) → Formed n T → (r < n → Own n r g) → Own n x f
-      → (o : Change owner) (l : Change lockHeld) (s : Change sendsTo) (q : Change senders) (c : Change copiesTo) (d : Change ready)
-      → Queues n (changed s) (changed q) → Owners n (changed o) (changed l) → Chains n (changed o) → Copies n (changed c) (changed d)
+  pub formed-changed : (r : ℕ) (f g : Thread) → (r < n → Own n r g) → Own n x f
+      → (o : Change T x r f g owner) (l : Change T x r f g lockHeld) (s : Change T x r f g sendsTo)
+      → (q : Change T x r f g senders) (c : Change T x r f g copiesTo) (d : Change T x r f g ready)
+      → Queues n (changed T x r f g s) (changed T x r f g q) → Owners n (changed T x r f g o) (changed T x r f g l)
+      → Chains n (changed T x r f g o) → Copies n (changed T x r f g c) (changed T x r f g d)
       → Formed n (update (update T r g) x f)
-  formed-changed n F its mine o l s q c d Q O C K = record {
+  formed-changed r f g its mine o l s q c d Q O C K = record {
     few = F .few;
     own = λ y. same? y x
         (λ e yn. rw (e, update-same) mine)
         (λ i. rw (update-other (update T r g) x f y i) (same? y r
         (λ e yn. rw (e, update-same) (its (rw e at yn)))
         (λ k. rw (update-other T r g y k) (F .own y))));
-    queues = subst₂ (Queues n) (sym (seen s)) (sym (seen q)) Q;
-    owners = subst₂ (Owners n) (sym (seen o)) (sym (seen l)) O;
-    chains = subst (Chains n) (sym (seen o)) C;
-    copies = subst₂ (Copies n) (sym (seen c)) (sym (seen d)) K;
+    queues = subst₂ (Queues n) (sym (seen T x r f g s)) (sym (seen T x r f g q)) Q;
+    owners = subst₂ (Owners n) (sym (seen T x r f g o)) (sym (seen T x r f g l)) O;
+    chains = subst (Chains n) (sym (seen T x r f g o)) C;
+    copies = subst₂ (Copies n) (sym (seen T x r f g c)) (sym (seen T x r f g d)) K;
   }
 
--- ---- thread x alone becomes f
-module _ (T : ℕ → Thread) (x : ℕ) (f : Thread) where
-  -- the same for one thread
-  pub formed-one : (n : ℕ) → Formed n T → Own n x f
+  -- the same where x alone becomes f
+  pub formed-one : (f : Thread) → Own n x f
       → (o : Change T x x f (T x) owner) (l : Change T x x f (T x) lockHeld) (s : Change T x x f (T x) sendsTo)
       → (q : Change T x x f (T x) senders) (c : Change T x x f (T x) copiesTo) (d : Change T x x f (T x) ready)
       → Queues n (changed T x x f (T x) s) (changed T x x f (T x) q) → Owners n (changed T x x f (T x) o) (changed T x x f (T x) l)
       → Chains n (changed T x x f (T x) o) → Copies n (changed T x x f (T x) c) (changed T x x f (T x) d)
       → Formed n (update T x f)
-  formed-one n F mine o l s q c d Q O C K =
-      subst (λ (before : ℕ → Thread). Formed n (update before x f)) (update-own T x) (formed-changed T x x f (T x) n F (F .own x) mine o l s q c d Q O C K)
+  formed-one f mine o l s q c d Q O C K =
+      subst (λ (before : ℕ → Thread). Formed n (update before x f)) (update-own T x) (formed-changed x f (T x) (F .own x) mine o l s q c d Q O C K)

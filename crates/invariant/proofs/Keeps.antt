@@ -63,11 +63,11 @@ target-near n o sends e = leb-false n (o .send .target) (rw sends at e)
 begin-kept : (x : ℕ) (o : Operation) (s : State) → AcceptedBegin s x o → length (s .table .threads) ≡ 32 → Formed (s .table .n) (at (s .table)) → Kept (s .table .n) (beginTable x o (s .table))
 begin-kept x o s b whole F =
     by (targetBeyond n o)
-    (λ e. subst (Kept n) (sym (target-beyond x o t e)) (edited t whole F x _ xn (begin-beyond-keeps n (at t) F x xn mine rest)))
+    (λ e. subst (Kept n) (sym (target-beyond x o t e)) (edited t whole F x _ xn (begin-beyond-keeps F x xn mine rest)))
     (λ e. by (o .send .present)
     (λ sends. subst (Kept n) (sym (begins-to-send x o t e sends))
-    (edited-two t whole F x (o .send .target) _ (joined x) xn (target-near n o sends e) (λ i. b .otherTarget sends (sym i)) (begin-send-keeps n (at t) F x xn mine rest o (canBegin e) sends (target-near n o sends e))))
-    (λ none. subst (Kept n) (sym (begins-to-receive x o t none)) (edited t whole F x _ xn (begin-receive-keeps n (at t) F x xn mine rest o (canBegin e) none (receives none)))))
+    (edited-two t whole F x (o .send .target) _ (joined x) xn (target-near n o sends e) (λ i. b .otherTarget sends (sym i)) (begin-send-keeps F x xn mine rest o (canBegin e) sends (target-near n o sends e))))
+    (λ none. subst (Kept n) (sym (begins-to-receive x o t none)) (edited t whole F x _ xn (begin-receive-keeps F x xn mine rest o (canBegin e) none (receives none)))))
   where
     t : Table
     t = s .table
@@ -100,7 +100,7 @@ accepted-keeps (step x) s e whole F = record {
 }
 accepted-keeps (cancel x) s e whole F = let a = accepted-cancel x s e in
     by (at (s .table) x .flags .ipc)
-    (λ runs. subst (Kept (s .table .n)) (sym (cancel-marks x (s .table) runs)) (edited (s .table) whole F x _ (a .below) (cancel-keeps (s .table .n) (at (s .table)) F x (a .below) (lock-free-read _ (a .free)) runs)))
+    (λ runs. subst (Kept (s .table .n)) (sym (cancel-marks x (s .table) runs)) (edited (s .table) whole F x _ (a .below) (cancel-keeps F x (a .below) (lock-free-read _ (a .free)) runs)))
     (λ over. subst (Kept (s .table .n)) (sym (cancel-nothing x (s .table) over)) (record { whole = whole; formed = F }))
 accepted-keeps tick s e whole F = record {
   whole = below-length ticked (s .table) (s .table .n) ∙ whole;

@@ -5,6 +5,7 @@ pub mod Globals
 pub mod Formed
 pub mod Changes
 pub mod Neighbours
+pub mod Receivers
 pub mod Moves
 pub mod Endings
 pub mod Steps

@@ -25,7 +25,7 @@ use Rattle.invariant.proofs.Neighbours.{few, number, copies-in, sends-i
 abbrev pub afterAction : Action → (ℕ → Thread) → ℕ → ℕ → Thread
 afterAction a T x = update (update T (otherOf a (T x)) (otherAfter a x (T x) (T (otherOf a (T x))))) x (ownAfter a (T x))
 
-module _ (n : ℕ) (T : ℕ → Thread) (F : Formed n T) (x : ℕ) (xn : x < n) where
+module _ {n : ℕ} {T : ℕ → Thread} (F : Formed n T) (x : ℕ) (xn : x < n) where
   abbrev h : Thread
   h = T x
 
@@ -34,32 +34,32 @@ module _ (n : ℕ) (T : ℕ → Thread) (F : Formed n T) (x : ℕ) (xn : x < n) 
 
   -- of x, which is in phase p, a test follows from its flags
   pub in-phase : (p : Phase) → phaseOf (h .phase) ≡ p → (f : FlagTest) → Follows (phaseNumber p) f → f (h .flags) (hasReceive (h .op .receive)) (h .op .send .present) ≡ true
-  in-phase p e f t = told h (F .own x xn .flags) (phaseNumber p) (number n T F x xn p e) f t
+  in-phase p e f t = told h (F .own x xn .flags) (phaseNumber p) (number F x xn p e) f t
 
   -- and where g holds of them too
   pub in-phase-if : (p : Phase) → phaseOf (h .phase) ≡ p → (g f : FlagTest) → Follows (phaseNumber p) (λ v r s. implies (g v r s) (f v r s))
       → g (h .flags) (hasReceive (h .op .receive)) (h .op .send .present) ≡ true → f (h .flags) (hasReceive (h .op .receive)) (h .op .send .present) ≡ true
-  in-phase-if p e g f t k = told-if h (F .own x xn .flags) (phaseNumber p) (number n T F x xn p e) g f t k
+  in-phase-if p e g f t k = told-if h (F .own x xn .flags) (phaseNumber p) (number F x xn p e) g f t k
 
   -- ---- x takes a lock that nobody owns
   module _ (r : ℕ) (other : Other n x r) (mine : h .owner ≡ nobody) (free : T r .owner ≡ nobody) (empty : lockHeld h ≡ nobody) where
     taken-owners : Owners n (update (of owner T) r x) (update (of lockHeld T) x r)
-    taken-owners = owners-take n (few n T F) (of owner T) (of lockHeld T) x r xn (other .below) free empty (F .owners)
+    taken-owners = owners-take n (few F) (of owner T) (of lockHeld T) x r xn (other .below) free empty (F .owners)
 
     taken-chains : Chains n (update (of owner T) r x)
-    taken-chains = chains-take n (few n T F) (of owner T) x r xn (other .below) mine (λ e. other .apart (sym e)) (F .chains)
+    taken-chains = chains-take n (few F) (of owner T) x r xn (other .below) mine (λ e. other .apart (sym e)) (F .chains)
 
     taken-other : r < n → Own n r (withOwner x (T r))
-    taken-other rn = own-owner n r (T r) (F .own r rn) x (owner-below n x xn)
+    taken-other rn = own-owner (F .own r rn) x (owner-below n x xn)
 
   -- lock: of its target
   pub take-lock-keeps : phaseOf (h .phase) ≡ lock → h .owner ≡ nobody → T target .owner ≡ nobody → Formed n (afterAction takeLock T x)
   unfolding ownAfter otherAfter readings cases phaseFits
   take-lock-keeps p mine free =
       let w : Own n x h = F .own x xn in
-      let r : Other n x target = target-other n x h w (sends-in-lock n T F x xn p) in
+      let r : Other n x target = target-other w (sends-in-lock F x xn p) in
       let empty : lockHeld h ≡ nobody = lock-held-in h lock p in
-      formed-changed T x target (ownAfter takeLock h) (otherAfter takeLock x h (T target)) n F
+      formed-changed F x target (ownAfter takeLock h) (otherAfter takeLock x h (T target))
       (taken-other target r mine free empty)
       (record {
         flags = in-phase lock p (λ v r s. fitsIn check (record { ipc = v .ipc; send = v .send; receiving = v .receiving; poll = true; mark = v .mark }) r s) refl;
@@ -69,14 +69,14 @@ module _ (n : ℕ) (T : ℕ → Thread) (F : Formed n T) (x : ℕ) (xn : x < n) 
         queue = w .queue;
         items = w .items;
       })
-      (there (r .apart) refl) (here refl) (kept refl refl) (kept refl refl) (kept refl (sym (copies-in n T F x xn lock p))) (kept refl refl)
+      (there (r .apart) refl) (here refl) (kept refl refl) (kept refl refl) (kept refl (sym (copies-in F x xn lock p))) (kept refl refl)
       (F .queues) (taken-owners target r mine free empty) (taken-chains target r mine free empty) (F .copies)
 
   -- a sender that stands in x's queue is another thread, since x does not send in look
   pub queued-other : (s : ℕ) → phaseOf (h .phase) ≡ look → 1 ≤ occurs s (senders h) → Other n x s
   unfolding cases
   queued-other s p queued =
-      let (sn, sends) = queued-sends n T F x s xn queued in
+      let (sn, sends) = queued-sends F x s xn queued in
       let quiet : sendsTo h x ≡ false = sends-nowhere h (not-true (h .flags .send) (in-phase look p (λ v r s. not (v .send)) refl)) x in
       record { below = sn; apart = λ e. let z : sendsTo h x ≡ true = rw e at sends in true≢false (sym z ∙ quiet) }
 
@@ -87,7 +87,7 @@ module _ (n : ℕ) (T : ℕ → Thread) (F : Formed n T) (x : ℕ) (xn : x < n) 
       let w : Own n x h = F .own x xn in
       let r : Other n x s = queued-other s p queued in
       let empty : lockHeld h ≡ nobody = lock-held-in h look p in
-      formed-changed T x s (ownAfter (takeSender s) h) (otherAfter (takeSender s) x h (T s)) n F
+      formed-changed F x s (ownAfter (takeSender s) h) (otherAfter (takeSender s) x h (T s))
       (taken-other s r mine free empty)
       (record {
         flags = in-phase look p (fitsIn wake) refl;
@@ -97,7 +97,7 @@ module _ (n : ℕ) (T : ℕ → Thread) (F : Formed n T) (x : ℕ) (xn : x < n) 
         queue = w .queue;
         items = w .items;
       })
-      (there (r .apart) refl) (here refl) (kept refl refl) (kept refl refl) (kept refl (sym (copies-in n T F x xn look p))) (kept refl refl)
+      (there (r .apart) refl) (here refl) (kept refl refl) (kept refl refl) (kept refl (sym (copies-in F x xn look p))) (kept refl refl)
       (F .queues) (taken-owners s r mine free empty) (taken-chains s r mine free empty) (F .copies)
 
   -- ---- x frees the lock of r, which it holds in phase p, and goes to a phase q that holds none
@@ -106,14 +106,14 @@ module _ (n : ℕ) (T : ℕ → Thread) (F : Formed n T) (x : ℕ) (xn : x < n) 
       → Formed n (update (update T r (withOwner nobody (T r))) x (entering q h))
   unfolding readings nobodyOrBelow
   freed-keeps r other has calm q flags empty still fits =
-      formed-changed T x r (entering q h) (withOwner nobody (T r)) n F
-      (λ rn. own-owner n r (T r) (F .own r rn) nobody refl)
-      (own-entering n x h (F .own x xn) q flags fits)
+      formed-changed F x r (entering q h) (withOwner nobody (T r))
+      (λ rn. own-owner (F .own r rn) nobody refl)
+      (own-entering (F .own x xn) q flags fits)
       (there (other .apart) refl) (here refl) (kept refl refl) (kept refl refl) (kept refl (still ∙ sym calm)) (kept refl refl)
       (F .queues)
       (subst (λ (held : ℕ). Owners n (update (of owner T) r nobody) (update (of lockHeld T) x held)) (sym empty)
-      (owners-free n (few n T F) (of owner T) (of lockHeld T) x r xn (other .below) has (F .owners)))
-      (chains-free n (few n T F) (of owner T) r (other .below) (F .chains))
+      (owners-free n (few F) (of owner T) (of lockHeld T) x r xn (other .below) has (F .owners)))
+      (chains-free n (few F) (of owner T) r (other .below) (F .chains))
       (F .copies)
 
   -- release: of its target, and it goes on by its flags
@@ -121,7 +121,7 @@ module _ (n : ℕ) (T : ℕ → Thread) (F : Formed n T) (x : ℕ) (xn : x < n) 
     released : (q : Phase) → FlagsFit (entering q h) → lockHeld (entering q h) ≡ nobody → copiesTo (entering q h) ≡ nobody
         → phaseFits n x (phaseNumber q) (h .op .send) (h .copied) (h .waking) ≡ true → Formed n (afterAction (freeTarget q) T x)
     unfolding ownAfter otherAfter cases
-    released q = freed-keeps target (target-in-release n T F x xn p) (lock-held-in h release p) (copies-in n T F x xn release p) q
+    released q = freed-keeps target (target-in-release F x xn p) (lock-held-in h release p) (copies-in F x xn release p) q
 
     -- to sleep
     pub release-to-sleep-keeps : h .flags .send ≡ true → Formed n (afterAction (freeTarget sleep) T x)
@@ -141,7 +141,7 @@ module _ (n : ℕ) (T : ℕ → Thread) (F : Formed n T) (x : ℕ) (xn : x < n) 
   -- unlock: of the sender that it has woken
   pub free-sender-keeps : phaseOf (h .phase) ≡ unlock → Formed n (afterAction freeSender T x)
   unfolding ownAfter otherAfter readings cases phaseFits
-  free-sender-keeps p = freed-keeps (h .waking) (woken-in-unlock n T F x xn p) (lock-held-in h unlock p) (copies-in n T F x xn unlock p) look
+  free-sender-keeps p = freed-keeps (h .waking) (woken-in-unlock F x xn p) (lock-held-in h unlock p) (copies-in F x xn unlock p) look
       (in-phase unlock p (fitsIn look) refl) refl refl refl
 
   -- ---- x changes no lock
@@ -150,7 +150,7 @@ module _ (n : ℕ) (T : ℕ → Thread) (F : Formed n T) (x : ℕ) (xn : x < n) 
   unfolding ownAfter otherAfter readings cases
   start-copy-keeps p now =
       let w : Own n x h = F .own x xn in
-      formed-changed T x target (ownAfter startCopy h) (otherAfter startCopy x h (T target)) n F
+      formed-changed F x target (ownAfter startCopy h) (otherAfter startCopy x h (T target))
       (F .own target)
       (record {
         flags = in-phase check p (fitsIn copy) refl;
@@ -168,11 +168,11 @@ module _ (n : ℕ) (T : ℕ → Thread) (F : Formed n T) (x : ℕ) (xn : x < n) 
   unfolding ownAfter otherAfter readings cases
   to-release-keeps p =
       let w : Own n x h = F .own x xn in
-      formed-changed T x target (ownAfter toRelease h) (otherAfter toRelease x h (T target)) n F
+      formed-changed F x target (ownAfter toRelease h) (otherAfter toRelease x h (T target))
       (F .own target)
-      (own-entering n x h w release (in-phase check p (fitsIn release) refl)
-      (release-fits n x (h .op .send) (h .copied) (h .waking) (target-other n x h w (sends-in-check n T F x xn p))))
-      (kept refl refl) (kept refl (sym (lock-held-in h check p))) (kept refl refl) (kept refl refl) (kept refl (sym (copies-in n T F x xn check p))) (kept refl refl)
+      (own-entering w release (in-phase check p (fitsIn release) refl)
+      (release-fits n x (h .op .send) (h .copied) (h .waking) (target-other w (sends-in-check F x xn p))))
+      (kept refl refl) (kept refl (sym (lock-held-in h check p))) (kept refl refl) (kept refl refl) (kept refl (sym (copies-in F x xn check p))) (kept refl refl)
       (F .queues) (F .owners) (F .chains) (F .copies)
 
   -- copy: one word more
@@ -180,13 +180,13 @@ module _ (n : ℕ) (T : ℕ → Thread) (F : Formed n T) (x : ℕ) (xn : x < n) 
   unfolding ownAfter otherAfter readings
   copy-word-keeps p more =
       let w : Own n x h = F .own x xn in
-      formed-changed T x target (ownAfter copyWord h) (otherAfter copyWord x h (T target)) n F
+      formed-changed F x target (ownAfter copyWord h) (otherAfter copyWord x h (T target))
       (F .own target)
       (record {
         flags = w .flags;
         outcome = w .outcome;
         operation = w .operation;
-        phase = rw (number n T F x xn copy p) (copy-fits n x (h .op .send) (h .copied + 1) (h .waking) (omega arith));
+        phase = rw (number F x xn copy p) (copy-fits n x (h .op .send) (h .copied + 1) (h .waking) (omega arith));
         queue = w .queue;
         items = w .items;
       })
@@ -197,29 +197,29 @@ module _ (n : ℕ) (T : ℕ → Thread) (F : Formed n T) (x : ℕ) (xn : x < n) 
   pub retry-keeps : phaseOf (h .phase) ≡ sleep → Formed n (afterAction retry T x)
   unfolding ownAfter otherAfter readings cases phaseFits
   retry-keeps p =
-      formed-changed T x (otherOf retry h) (ownAfter retry h) (otherAfter retry x h (T (otherOf retry h))) n F
+      formed-changed F x (otherOf retry h) (ownAfter retry h) (otherAfter retry x h (T (otherOf retry h)))
       (F .own (otherOf retry h))
-      (own-entering n x h (F .own x xn) lock (in-phase sleep p (fitsIn lock) refl) refl)
-      (kept refl refl) (kept refl (sym (lock-held-in h sleep p))) (kept refl refl) (kept refl refl) (kept refl (sym (copies-in n T F x xn sleep p))) (kept refl refl)
+      (own-entering (F .own x xn) lock (in-phase sleep p (fitsIn lock) refl) refl)
+      (kept refl refl) (kept refl (sym (lock-held-in h sleep p))) (kept refl refl) (kept refl refl) (kept refl (sym (copies-in F x xn sleep p))) (kept refl refl)
       (F .queues) (F .owners) (F .chains) (F .copies)
 
   -- look: nothing runs any more
   pub to-idle-keeps : phaseOf (h .phase) ≡ look → h .flags .ipc ≡ false → Formed n (afterAction toIdle T x)
   unfolding ownAfter otherAfter readings cases phaseFits
   to-idle-keeps p over =
-      formed-changed T x (otherOf toIdle h) (ownAfter toIdle h) (otherAfter toIdle x h (T (otherOf toIdle h))) n F
+      formed-changed F x (otherOf toIdle h) (ownAfter toIdle h) (otherAfter toIdle x h (T (otherOf toIdle h)))
       (F .own (otherOf toIdle h))
-      (own-entering n x h (F .own x xn) idle (in-phase-if look p (λ v r s. not (v .ipc)) (fitsIn idle) refl (rw over refl)) refl)
-      (kept refl refl) (kept refl (sym (lock-held-in h look p))) (kept refl refl) (kept refl refl) (kept refl (sym (copies-in n T F x xn look p))) (kept refl refl)
+      (own-entering (F .own x xn) idle (in-phase-if look p (λ v r s. not (v .ipc)) (fitsIn idle) refl (rw over refl)) refl)
+      (kept refl refl) (kept refl (sym (lock-held-in h look p))) (kept refl refl) (kept refl refl) (kept refl (sym (copies-in F x xn look p))) (kept refl refl)
       (F .queues) (F .owners) (F .chains) (F .copies)
 
   -- wake: it clears the sender's `poll`
   pub clear-poll-keeps : phaseOf (h .phase) ≡ wake → Formed n (afterAction clearPoll T x)
   unfolding ownAfter otherAfter readings cases
   clear-poll-keeps p =
-      formed-changed T x (h .waking) (ownAfter clearPoll h) (otherAfter clearPoll x h (T (h .waking))) n F
-      (λ rn. own-unpolled n (h .waking) (T (h .waking)) (F .own (h .waking) rn))
-      (own-entering n x h (F .own x xn) unlock (in-phase wake p (fitsIn unlock) refl)
-      (unlock-fits n x (h .op .send) (h .copied) (h .waking) (woken-in-wake n T F x xn p .below)))
-      (kept refl refl) (kept refl (sym (lock-held-in h wake p))) (kept refl refl) (kept refl refl) (kept refl (sym (copies-in n T F x xn wake p))) (kept refl refl)
+      formed-changed F x (h .waking) (ownAfter clearPoll h) (otherAfter clearPoll x h (T (h .waking)))
+      (λ rn. own-unpolled (F .own (h .waking) rn))
+      (own-entering (F .own x xn) unlock (in-phase wake p (fitsIn unlock) refl)
+      (unlock-fits n x (h .op .send) (h .copied) (h .waking) (woken-in-wake F x xn p .below)))
+      (kept refl refl) (kept refl (sym (lock-held-in h wake p))) (kept refl refl) (kept refl refl) (kept refl (sym (copies-in F x xn wake p))) (kept refl refl)
       (F .queues) (F .owners) (F .chains) (F .copies)

@@ -31,7 +31,7 @@ pub sends-nowhere : (h : Thread) → h .flags .send ≡ false → (u : ℕ) → 
 unfolding sendsTo
 sends-nowhere h e u = rw e refl
 
-module _ (n : ℕ) (T : ℕ → Thread) (F : Formed n T) where
+module _ {n : ℕ} {T : ℕ → Thread} (F : Formed n T) where
   -- 255 is no thread of the table
   pub few : n ≤ nobody
   few = let l = F .few in omega arith
@@ -77,16 +77,16 @@ module _ (n : ℕ) (T : ℕ → Thread) (F : Formed n T) where
     -- release
     pub target-in-release : phaseOf (T x .phase) ≡ release → Other n x (T x .op .send .target)
     unfolding isOneOf
-    target-in-release e = holds-other x xn release e (target-below n x (T x) (F .own x xn) (rw (number x xn release e) refl))
+    target-in-release e = holds-other x xn release e (target-below (F .own x xn) (rw (number x xn release e) refl))
 
     -- wake and unlock
     pub woken-in-wake : phaseOf (T x .phase) ≡ wake → Other n x (T x .waking)
     unfolding isOneOf
-    woken-in-wake e = holds-other x xn wake e (woken-below n x (T x) (F .own x xn) (rw (number x xn wake e) refl))
+    woken-in-wake e = holds-other x xn wake e (woken-below (F .own x xn) (rw (number x xn wake e) refl))
 
     pub woken-in-unlock : phaseOf (T x .phase) ≡ unlock → Other n x (T x .waking)
     unfolding isOneOf
-    woken-in-unlock e = holds-other x xn unlock e (woken-below n x (T x) (F .own x xn) (rw (number x xn unlock e) refl))
+    woken-in-unlock e = holds-other x xn unlock e (woken-below (F .own x xn) (rw (number x xn unlock e) refl))
 
   -- ---- copies
   -- a thread that copies is in copy
@@ -123,7 +123,7 @@ module _ (n : ℕ) (T : ℕ → Thread) (F : Formed n T) where
   -- a thread that sends stands in its target's queue
   pub queued-at-target : (x : ℕ) → x < n → T x .flags .send ≡ true → 1 ≤ occurs x (senders (T (T x .op .send .target)))
   queued-at-target x xn e =
-      let once = sends-queued (T x .op .send .target) x (target-other n x (T x) (F .own x xn) e .below) xn (sends-to (T x) e (T x .op .send .target) ∙ eq-eqb (T x .op .send .target) (T x .op .send .target) refl) in
+      let once = sends-queued (T x .op .send .target) x (target-other (F .own x xn) e .below) xn (sends-to (T x) e (T x .op .send .target) ∙ eq-eqb (T x .op .send .target) (T x .op .send .target) refl) in
       omega arith
 
   -- a queue has room for a thread that does not send
@@ -131,7 +131,7 @@ module _ (n : ℕ) (T : ℕ → Thread) (F : Formed n T) where
   unfolding occurs
   queue-room x r xn rn quiet =
       let fits = few-enough n (x ∷ senders (T r)) once out in
-      omega (arith, senders-length x (T r) (F .own r rn .items) (queue-small n r (T r) (F .own r rn)), F .few)
+      omega (arith, senders-length x (T r) (F .own r rn .items) (queue-small (F .own r rn)), F .few)
     where
       absent : occurs x (senders (T r)) ≡ 0
       absent = F .queues r rn x ∙ rw (lt-ltb x n xn, sends-nowhere (T x) quiet r) refl

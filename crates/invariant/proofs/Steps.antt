@@ -27,20 +27,20 @@ module _ (t : Table) (F : Formed (t .n) (at t)) (x : ℕ) (xn : x < t .n) where
   pub other-in-table : (a : Action) → Fits t x a → (otherOf a (at t x) < t .n) ⊎ (otherAfter a x (at t x) (at t (otherOf a (at t x))) ≡ at t (otherOf a (at t x)))
   unfolding otherAfter
   other-in-table (stay a) f = inr refl
-  other-in-table takeLock f = inl (target-other (t .n) x (at t x) (F .own x xn) (sends-in-lock (t .n) (at t) F x xn (f .0)) .below)
-  other-in-table (abortSend c) f = inl (target-other (t .n) x (at t x) (F .own x xn) (sends-in-check (t .n) (at t) F x xn (f .0)) .below)
+  other-in-table takeLock f = inl (target-other (F .own x xn) (sends-in-lock F x xn (f .0)) .below)
+  other-in-table (abortSend c) f = inl (target-other (F .own x xn) (sends-in-check F x xn (f .0)) .below)
   other-in-table startCopy f = inr refl
   other-in-table toRelease f = inr refl
   other-in-table copyWord f = inr refl
-  other-in-table finishCall f = inl (target-other (t .n) x (at t x) (F .own x xn) (sends-in-copy (t .n) (at t) F x xn (f .0)) .below)
-  other-in-table finishSend f = inl (target-other (t .n) x (at t x) (F .own x xn) (sends-in-copy (t .n) (at t) F x xn (f .0)) .below)
-  other-in-table (freeTarget p) f = inl (target-in-release (t .n) (at t) F x xn (f .0) .below)
+  other-in-table finishCall f = inl (target-other (F .own x xn) (sends-in-copy F x xn (f .0)) .below)
+  other-in-table finishSend f = inl (target-other (F .own x xn) (sends-in-copy F x xn (f .0)) .below)
+  other-in-table (freeTarget p) f = inl (target-in-release F x xn (f .0) .below)
   other-in-table retry f = inr refl
   other-in-table toIdle f = inr refl
   other-in-table (abortReceive c) f = inr refl
-  other-in-table (takeSender s) f = inl (queued-other (t .n) (at t) F x xn s (f .0) (found-queued (at t x) s (f .1 .finds)) .below)
-  other-in-table clearPoll f = inl (woken-in-wake (t .n) (at t) F x xn f .below)
-  other-in-table freeSender f = inl (woken-in-unlock (t .n) (at t) F x xn f .below)
+  other-in-table (takeSender s) f = inl (queued-other F x xn s (f .0) (found-queued (at t x) s (f .1 .finds)) .below)
+  other-in-table clearPoll f = inl (woken-in-wake F x xn f .below)
+  other-in-table freeSender f = inl (woken-in-unlock F x xn f .below)
 
   -- the threads after an action that was decided
   pub act-changes : length (t .threads) ≡ 32 → (a : Action) → Fits t x a → at (act a x t) ≡ afterAction a (at t) x
@@ -60,36 +60,36 @@ module _ (t : Table) (F : Formed (t .n) (at t)) (x : ℕ) (xn : x < t .n) where
   module _ (mine : at t x .owner ≡ nobody) where
     aborts-send : (c : ℤ) → AbortsSend t x c → phaseOf (at t x .phase) ≡ check → Formed (t .n) (afterAction (abortSend c) (at t) x)
     unfolding isCode
-    aborts-send c (AbortsSend.cancelled e) p = abort-send-keeps (t .n) (at t) F x xn sendCancelled refl refl p
-    aborts-send c (AbortsSend.late e f g) p = abort-send-keeps (t .n) (at t) F x xn sendTimeOver refl refl p
+    aborts-send c (AbortsSend.cancelled e) p = abort-send-keeps F x xn sendCancelled refl refl p
+    aborts-send c (AbortsSend.late e f g) p = abort-send-keeps F x xn sendTimeOver refl refl p
 
     aborts-receive : (c : ℤ) → AbortsReceive t x c → phaseOf (at t x .phase) ≡ look → Formed (t .n) (afterAction (abortReceive c) (at t) x)
     unfolding isCode
-    aborts-receive c (AbortsReceive.cancelled e) p = abort-receive-keeps (t .n) (at t) F x xn receiveCancelled refl refl p mine
-    aborts-receive c (AbortsReceive.late e f g) p = abort-receive-keeps (t .n) (at t) F x xn receiveTimeOver refl refl p mine
+    aborts-receive c (AbortsReceive.cancelled e) p = abort-receive-keeps F x xn receiveCancelled refl refl p mine
+    aborts-receive c (AbortsReceive.late e f g) p = abort-receive-keeps F x xn receiveTimeOver refl refl p mine
 
     goes-on : (q : Phase) → GoesOn t x q → phaseOf (at t x .phase) ≡ release → Formed (t .n) (afterAction (freeTarget q) (at t) x)
-    goes-on q (sending e) p = release-to-sleep-keeps (t .n) (at t) F x xn p e
-    goes-on q (receiving e f) p = release-to-look-keeps (t .n) (at t) F x xn p e
-    goes-on q (ended e f) p = release-to-idle-keeps (t .n) (at t) F x xn p f
+    goes-on q (sending e) p = release-to-sleep-keeps F x xn p e
+    goes-on q (receiving e f) p = release-to-look-keeps F x xn p e
+    goes-on q (ended e f) p = release-to-idle-keeps F x xn p f
 
     -- every action that was decided keeps the threads well-formed
     action-keeps : (a : Action) → Fits t x a → Formed (t .n) (afterAction a (at t) x)
     action-keeps (stay a) f = stay-keeps a
-    action-keeps takeLock f = take-lock-keeps (t .n) (at t) F x xn (f .0) mine (f .1)
+    action-keeps takeLock f = take-lock-keeps F x xn (f .0) mine (f .1)
     action-keeps (abortSend c) f = aborts-send c (f .1) (f .0)
-    action-keeps startCopy f = start-copy-keeps (t .n) (at t) F x xn (f .0) (f .2)
-    action-keeps toRelease f = to-release-keeps (t .n) (at t) F x xn (f .0)
-    action-keeps copyWord f = copy-word-keeps (t .n) (at t) F x xn (f .0) (f .1)
-    action-keeps finishCall f = finish-call-keeps (t .n) (at t) F x xn (f .0) mine (f .2)
-    action-keeps finishSend f = finish-send-keeps (t .n) (at t) F x xn (f .0) mine
+    action-keeps startCopy f = start-copy-keeps F x xn (f .0) (f .2)
+    action-keeps toRelease f = to-release-keeps F x xn (f .0)
+    action-keeps copyWord f = copy-word-keeps F x xn (f .0) (f .1)
+    action-keeps finishCall f = finish-call-keeps F x xn (f .0) mine (f .2)
+    action-keeps finishSend f = finish-send-keeps F x xn (f .0) mine
     action-keeps (freeTarget q) f = goes-on q (f .1) (f .0)
-    action-keeps retry f = retry-keeps (t .n) (at t) F x xn (f .0)
-    action-keeps toIdle f = to-idle-keeps (t .n) (at t) F x xn (f .0) (f .1)
+    action-keeps retry f = retry-keeps F x xn (f .0)
+    action-keeps toIdle f = to-idle-keeps F x xn (f .0) (f .1)
     action-keeps (abortReceive c) f = aborts-receive c (f .2) (f .0)
-    action-keeps (takeSender s) f = take-sender-keeps (t .n) (at t) F x xn s (f .0) mine (found-queued (at t x) s (f .1 .finds)) (f .1 .free)
-    action-keeps clearPoll f = clear-poll-keeps (t .n) (at t) F x xn f
-    action-keeps freeSender f = free-sender-keeps (t .n) (at t) F x xn f
+    action-keeps (takeSender s) f = take-sender-keeps F x xn s (f .0) mine (found-queued (at t x) s (f .1 .finds)) (f .1 .free)
+    action-keeps clearPoll f = clear-poll-keeps F x xn f
+    action-keeps freeSender f = free-sender-keeps F x xn f
 
   -- a step keeps the threads well-formed
   pub step-keeps : length (t .threads) ≡ 32 → Formed (t .n) (at (act (decide t x) x t))

@@ -98,7 +98,7 @@ accepted-words (step x) s z e y = ⊎-elim
         let F = found-formed (step x) s z e in
         let xn = accepted-step x s e .below in
         let f : Fits (s .table) x copyWord = subst (Fits (s .table) x) i (decided (s .table) x) in
-        omega (arith, f .1, count-small (s .table .n) x (at (s .table) x) (F .own x xn) (sends-in-copy (s .table .n) (at (s .table)) F x xn (f .0)))
+        omega (arith, f .1, count-small (F .own x xn) (sends-in-copy F x xn (f .0)))
 accepted-words (cancel x) s z e y = inl refl
 accepted-words tick s z e y = inl refl
 

@@ -31,7 +31,7 @@ module _ {n : ℕ} {p : Machine} {T : ℕ → Thread} {store : List ℕ} (S : Si
   module _ (c : phaseOf (h .phase) ≡ check) where
     -- it sends
     sends : h .flags .send ≡ true
-    sends = sends-in-check n T (S .formed) x xn c
+    sends = sends-in-check (S .formed) x xn c
 
     -- a marked thread may abort its send
     pub send-cancelled : h .flags .mark ≡ true → CanAbort n p x sendCancelled
@@ -40,14 +40,14 @@ module _ {n : ℕ} {p : Machine} {T : ℕ → Thread} {store : List ℕ} (S : Si
     -- and one whose time is over and whose target is not ready
     pub send-late : ready (T (h .op .send .target)) x ≡ false → h .left ≡ 0 → CanAbort n p x sendTimeOver
     send-late e l = lateSending (h .op) (sends-alike S x xn sends) (left-alike S x xn ∙ l)
-        (ready-alike S (h .op .send .target) (target-other n x h (S .formed .own x xn) sends .below) x ∙ e)
+        (ready-alike S (h .op .send .target) (target-other (S .formed .own x xn) sends .below) x ∙ e)
 
   -- ---- look
   module _ (c : phaseOf (h .phase) ≡ look) (runs : h .flags .ipc ≡ true) where
     -- it receives
     receives : p x .run ≡ receiving (h .op .receive)
     unfolding cases
-    receives = receives-alike S x xn runs (not-true (h .flags .send) (told h (S .formed .own x xn .flags) 6 (number n T (S .formed) x xn look c) (λ v r s. not (v .send)) refl))
+    receives = receives-alike S x xn runs (not-true (h .flags .send) (told h (S .formed .own x xn .flags) 6 (number (S .formed) x xn look c) (λ v r s. not (v .send)) refl))
 
     -- a marked thread may abort its receive
     pub receive-cancelled : h .flags .mark ≡ true → CanAbort n p x receiveCancelled
@@ -56,7 +56,7 @@ module _ {n : ℕ} {p : Machine} {T : ℕ → Thread} {store : List ℕ} (S : Si
     -- and one whose time is over and whose search finds nobody: who is queued at it stands in its queue
     pub receive-late : findSender h ≡ none → h .left ≡ 0 → CanAbort n p x receiveTimeOver
     receive-late e l = lateReceiving (h .op .receive) receives (left-alike S x xn ∙ l) (λ s sn q.
-        let once = sends-queued n T (S .formed) x s xn sn (queued-alike S s sn x q) in
+        let once = sends-queued (S .formed) x s xn sn (queued-alike S s sn x q) in
         rw receives (none-acceptable h s e (omega arith)))
 
   -- ---- what they leave
@@ -68,7 +68,7 @@ module _ {n : ℕ} {p : Machine} {T : ℕ → Thread} {store : List ℕ} (S : Si
         → Leads n (some (aborts x c)) p (afterAction a T x) store
     unfolding play
     aborts-lead a its ends copied calm = own-leads S x xn store (same-store S x xn) (some (aborts x c)) (xn, can) (otherOf a h) (otherAfter a x h (T (otherOf a h))) (ownAfter a h)
-        (ending (codeOnly c) [] (p x)) refl its (ap (ending (codeOnly c) []) (S .like x xn) ∙ ends _) copied (copies-nowhere n store (ownAfter a h) (few n T (S .formed)) calm)
+        (ending (codeOnly c) [] (p x)) refl its (ap (ending (codeOnly c) []) (S .like x xn) ∙ ends _) copied (copies-nowhere n store (ownAfter a h) (few (S .formed)) calm)
 
     -- of a send
     pub abort-send-leads : Leads n (some (aborts x c)) p (afterAction (abortSend c) T x) store

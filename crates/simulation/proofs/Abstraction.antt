@@ -56,7 +56,7 @@ copied-few : (n x : ℕ) (h : Thread) → Own n x h → n ≤ nobody → copiesT
 unfolding copiesTo cases
 copied-few n x h w few l = by (isOneOf (copy ∷ []) (h .phase))
     (λ e. let sends : h .flags .send ≡ true = implies-read _ _ (told-any h (w .flags) (λ k v r s. implies (isOneOf (copy ∷ []) k) (v .send)) refl) e in
-    omega (arith, copied-small n x h w e, count-small n x h w sends))
+    omega (arith, copied-small w e, count-small w sends))
     (λ e. let z : nobody < n = rw e at l in absurd (omega arith))
 
 -- of one whose receiver's words stay, whatever else changes in the store

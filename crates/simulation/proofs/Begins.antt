@@ -43,8 +43,8 @@ module _ {n : ℕ} {p : Machine} {T : ℕ → Thread} {store : List ℕ} (S : Si
   zeroed-kept : OthersKept n T x store after
   zeroed-kept = record {
     words = λ y yn d. ap (seems (T y)) (sym (words-zeroed-other store x y d));
-    copied = λ y yn d. copied-kept n y store after (T y) (S .formed .own y yn) (few n T (S .formed))
-        (λ l. words-zeroed-other store x (copiesTo (T y)) (no-copier n T (S .formed) x xn unowned y yn)) (S .copied y yn);
+    copied = λ y yn d. copied-kept n y store after (T y) (S .formed .own y yn) (few (S .formed))
+        (λ l. words-zeroed-other store x (copiesTo (T y)) (no-copier (S .formed) x xn unowned y yn)) (S .copied y yn);
   }
 
   -- the begin is allowed
@@ -61,7 +61,7 @@ module _ {n : ℕ} {p : Machine} {T : ℕ → Thread} {store : List ℕ} (S : Si
   beyond-leads : targetBeyond n o ≡ true → Leads n (some (begins x o)) p (update T x (ended (codeOnly noReceiver) h)) after
   unfolding play beginning seems copiesTo
   beyond-leads far = alone-leads S x xn after zeroed-kept (some (begins x o)) may (ended (codeOnly noReceiver) h) (beginning n o (p x)) refl
-      (rw far (ap (ending (codeOnly noReceiver) []) (S .like x xn))) (copies-nowhere n after (ended (codeOnly noReceiver) h) (few n T (S .formed)) calm)
+      (rw far (ap (ending (codeOnly noReceiver) []) (S .like x xn))) (copies-nowhere n after (ended (codeOnly noReceiver) h) (few (S .formed)) calm)
 
   -- else x begins alike in both machines, whatever its phase
   begun-alike : (q : Phase) → targetBeyond n o ≡ false → beginning n o (p x) ≡ seems (begun o q h) (wordsAt after x)
@@ -72,13 +72,13 @@ module _ {n : ℕ} {p : Machine} {T : ℕ → Thread} {store : List ℕ} (S : Si
   to-send-leads : targetBeyond n o ≡ false → Leads n (some (begins x o)) p (update (update T (o .send .target) (joined x (T (o .send .target)))) x (begun o lock h)) after
   unfolding play begun joined seems copiesTo isOneOf
   to-send-leads near = own-leads S x xn after zeroed-kept (some (begins x o)) may (o .send .target) (joined x (T (o .send .target))) (begun o lock h) (beginning n o (p x)) refl refl
-      (begun-alike lock near) (λ k. k) (copies-nowhere n after (begun o lock h) (few n T (S .formed)) refl)
+      (begun-alike lock near) (λ k. k) (copies-nowhere n after (begun o lock h) (few (S .formed)) refl)
 
   -- without one
   to-receive-leads : targetBeyond n o ≡ false → Leads n (some (begins x o)) p (update T x (begun o look h)) after
   unfolding play begun copiesTo isOneOf
   to-receive-leads near = alone-leads S x xn after zeroed-kept (some (begins x o)) may (begun o look h) (beginning n o (p x)) refl
-      (begun-alike look near) (copies-nowhere n after (begun o look h) (few n T (S .formed)) refl)
+      (begun-alike look near) (copies-nowhere n after (begun o look h) (few (S .formed)) refl)
 
 -- an accepted begin is its event
 pub begin-leads : (s : State) {p : Machine} → Simulates (s .table .n) p (at (s .table)) (s .store) → length (s .table .threads) ≡ 32 → (x : ℕ) (o : Operation) → AcceptedBegin s x o

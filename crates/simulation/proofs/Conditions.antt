@@ -63,7 +63,7 @@ module _ {n : ℕ} {p : Machine} {T : ℕ → Thread} {store : List ℕ} (S : Si
     -- it sends
     pub sends-alike : T x .flags .send ≡ true → p x .run ≡ sending (T x .op)
     unfolding runOf
-    sends-alike e = run-alike ∙ rw (sends-runs n x (T x) (S .formed .own x xn) e, e) refl
+    sends-alike e = run-alike ∙ rw (sends-runs (S .formed .own x xn) e, e) refl
 
     -- it receives
     pub receives-alike : T x .flags .ipc ≡ true → T x .flags .send ≡ false → p x .run ≡ receiving (T x .op .receive)

@@ -18,10 +18,10 @@ use Rattle.invariant.proofs.Facts.{sends-runs}
 use Rattle.invariant.proofs.Formed.{copiesTo}
 use Rattle.invariant.proofs.Neighbours.{few, sends-in-copy}
 use Rattle.invariant.proofs.Moves.{afterAction}
+use Rattle.invariant.proofs.Receivers.{receiver-other, copies-to-target, receiver-ready, message-short}
 use Rattle.simulation.proofs.Abstraction.{seems, copies-nowhere}
 use Rattle.simulation.proofs.Leads.{Simulates, Leads, same-store, both-lead}
 use Rattle.simulation.proofs.Conditions.{sends-alike, ready-alike}
-use Rattle.simulation.proofs.Copying.{receiver-other, copies-to-target, receiver-ready, message-short}
 
 -- thread x is in copy and has copied its whole message
 module _ {n : ℕ} {p : Machine} {T : ℕ → Thread} {store : List ℕ} (S : Simulates n p T store) (x : ℕ) (xn : x < n)
@@ -34,22 +34,22 @@ module _ {n : ℕ} {p : Machine} {T : ℕ → Thread} {store : List ℕ} (S : Si
 
   -- its target is a thread of the table
   below : target < n
-  below = receiver-other n T (S .formed) x xn c .below
+  below = receiver-other (S .formed) x xn c .below
 
   -- it sends
   sends : p x .run ≡ sending (h .op)
-  sends = sends-alike S x xn (sends-in-copy n T (S .formed) x xn c)
+  sends = sends-alike S x xn (sends-in-copy (S .formed) x xn c)
 
   -- the rendezvous is allowed
   may : Can n (rendezvous x target) p
-  may = (xn, below, record { operation = h .op; runs = sends; target = refl }, ready-alike S target below x ∙ receiver-ready n T (S .formed) x xn c)
+  may = (xn, below, record { operation = h .op; runs = sends; target = refl }, ready-alike S target below x ∙ receiver-ready (S .formed) x xn c)
 
   -- the receiver's first words are the message
   message-there : take (h .op .send .count) (wordsAt store target) ≡ message (h .op .send)
-  message-there = words-are-message store n target (S .fit) below (h .op .send) (message-short n T (S .formed) x xn c) (λ j l. there j (omega arith))
+  message-there = words-are-message store n target (S .fit) below (h .op .send) (message-short (S .formed) x xn c) (λ j l. there j (omega arith))
     where
       there : (j : ℕ) → j < h .copied → getD store (8 * target + j) 0 ≡ getD (h .op .send .words) j 0
-      there = let to = copies-to-target n T (S .formed) x xn c in
+      there = let to = copies-to-target (S .formed) x xn c in
           subst (λ (r : ℕ). (j : ℕ) → j < h .copied → getD store (8 * r + j) 0 ≡ getD (h .op .send .words) j 0) to (S .copied x xn (rw to below))
 
   -- the receiver ends alike in both machines
@@ -63,12 +63,12 @@ module _ {n : ℕ} {p : Machine} {T : ℕ → Thread} {store : List ℕ} (S : Si
   unfolding play received departed copiesTo
   rendezvous-leads f alike calm = both-lead S x xn store (same-store S x xn) (some (rendezvous x target)) may target (received x h (T target)) f
       (receiverAfter x (p x .run) (p target)) (senderAfter (p x .run) (p x)) refl
-      (λ rn d. receiver-alike) alike (λ rn d. S .copied target rn) (copies-nowhere n store f (few n T (S .formed)) calm)
+      (λ rn d. receiver-alike) alike (λ rn d. S .copied target rn) (copies-nowhere n store f (few (S .formed)) calm)
 
   -- with a receive part it receives
   pub finish-call-leads : hasReceive (h .op .receive) ≡ true → Leads n (some (rendezvous x target)) p (afterAction finishCall T x) store
   unfolding ownAfter otherAfter senderAfter seems copiesTo isOneOf
-  finish-call-leads both = rendezvous-leads (ownAfter finishCall h) (rw (sends, both, S .like x xn, sends-runs n x h (S .formed .own x xn) (sends-in-copy n T (S .formed) x xn c)) refl) refl
+  finish-call-leads both = rendezvous-leads (ownAfter finishCall h) (rw (sends, both, S .like x xn, sends-runs (S .formed .own x xn) (sends-in-copy (S .formed) x xn c)) refl) refl
 
   -- without one it ends
   pub finish-send-leads : hasReceive (h .op .receive) ≡ false → Leads n (some (rendezvous x target)) p (afterAction finishSend T x) store

@@ -37,7 +37,7 @@ module _ (t : Table) {p : Machine} {store : List ℕ} (S : Simulates (t .n) p (a
 
   -- after the action x copies to nobody
   nowhere : (a : Action) → copiesTo (ownAfter a h) ≡ nobody → CopiedBy (t .n) store (ownAfter a h)
-  nowhere a = copies-nowhere (t .n) store (ownAfter a h) (few (t .n) (at t) (S .formed))
+  nowhere a = copies-nowhere (t .n) store (ownAfter a h) (few (S .formed))
 
   -- x goes on from release
   goes-on : (q : Phase) → GoesOn t x q → Leads (t .n) none p (afterAction (freeTarget q) (at t) x) store
