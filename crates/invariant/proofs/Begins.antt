@@ -97,33 +97,32 @@ module _ {n : ℕ} {T : ℕ → Thread} (F : Formed n T) (x : ℕ) (xn : x < n) 
         let f : Thread = begun o lock h in
         let room = queue-room F x r xn rn quiet in
         formed-changed F x r f (joined x (T r))
-        (λ rn. own-joined (F .own r rn) x room)
-        (begun-own n x h o lock (F .own x xn) l (rw sends (lock-flags (hasReceive (o .receive)))) refl)
-        (kept refl refl) (kept refl (sym (lock-held-in h idle rest))) (here refl) (there (l .target sends) refl) (kept refl (sym (copies-in F x xn idle rest)))
-        (kept refl (fun-ext (not-ready f (rw sends (sending-busy (hasReceive (o .receive))))) ∙ sym not-waiting))
-        (queues-join n (of sendsTo T) (of senders T) x r _ _ xn rn (sends-nowhere h quiet) (λ u. rw sends refl)
-        (senders-joined x (T r) (F .own r rn .items) room) (F .queues))
-        (F .owners) (F .chains) (F .copies)
+        (record { owner = kept refl refl; held = kept refl (sym (lock-held-in h idle rest)); sends = here refl; queue = there (l .target sends) refl; copies = kept refl (sym (copies-in F x xn idle rest)); ready = kept refl (fun-ext (not-ready f (rw sends (sending-busy (hasReceive (o .receive))))) ∙ sym not-waiting) })
+        (record {
+          other = λ rn. own-joined (F .own r rn) x room;
+          own = begun-own n x h o lock (F .own x xn) l (rw sends (lock-flags (hasReceive (o .receive)))) refl;
+          queues = queues-join n (of sendsTo T) (of senders T) x r _ _ xn rn (sends-nowhere h quiet) (λ u. rw sends refl)
+              (senders-joined x (T r) (F .own r rn .items) room) (F .queues);
+          owners = F .owners;
+          chains = F .chains;
+          copies = F .copies;
+        })
 
     -- to receive
     pub begin-receive-keeps : (o : Operation) → CanBegin n x o → o .send .present ≡ false → hasReceive (o .receive) ≡ true → Formed n (update T x (begun o look h))
     unfolding begun begunFlags readings cases phaseFits
     begin-receive-keeps o l none receives =
         formed-one F x (begun o look h)
-        (begun-own n x h o look (F .own x xn) l (rw (none, receives) refl) refl)
-        (kept refl refl) (kept refl (sym (lock-held-in h idle rest))) (kept refl (fun-ext (λ u. rw none refl) ∙ silent)) (kept refl refl) (kept refl (sym (copies-in F x xn idle rest))) (here refl)
-        (F .queues) (F .owners) (F .chains)
-        (copies-free n (of copiesTo T) (of ready T) x _ (no-copier F x xn mine) (F .copies))
+        (record { owner = kept refl refl; held = kept refl (sym (lock-held-in h idle rest)); sends = kept refl (fun-ext (λ u. rw none refl) ∙ silent); queue = kept refl refl; copies = kept refl (sym (copies-in F x xn idle rest)); ready = here refl })
+        (record { other = F .own x; own = begun-own n x h o look (F .own x xn) l (rw (none, receives) refl) refl; queues = F .queues; owners = F .owners; chains = F .chains; copies = copies-free n (of copiesTo T) (of ready T) x _ (no-copier F x xn mine) (F .copies) })
 
     -- to a target that does not exist
     pub begin-beyond-keeps : Formed n (update T x (ended (codeOnly noReceiver) h))
     unfolding readings isCode
     begin-beyond-keeps =
         formed-one F x (ended (codeOnly noReceiver) h)
-        (own-ended (F .own x xn) quiet _ (bare-fits n noReceiver refl refl))
-        (kept refl refl) (kept refl refl) (kept refl silent) (kept refl refl) (kept refl refl) (here refl)
-        (F .queues) (F .owners) (F .chains)
-        (copies-free n (of copiesTo T) (of ready T) x _ (no-copier F x xn mine) (F .copies))
+        (record { owner = kept refl refl; held = kept refl refl; sends = kept refl silent; queue = kept refl refl; copies = kept refl refl; ready = here refl })
+        (record { other = F .own x; own = own-ended (F .own x xn) quiet _ (bare-fits n noReceiver refl refl); queues = F .queues; owners = F .owners; chains = F .chains; copies = copies-free n (of copiesTo T) (of ready T) x _ (no-copier F x xn mine) (F .copies) })
 
   -- ---- cancel of a running operation
   pub cancel-keeps : h .flags .ipc ≡ true → Formed n (update T x (marked h))
@@ -131,18 +130,23 @@ module _ {n : ℕ} {T : ℕ → Thread} (F : Formed n T) (x : ℕ) (xn : x < n) 
   cancel-keeps runs =
       let w : Own n x h = F .own x xn in
       formed-one F x (marked h)
+      (record { owner = kept refl refl; held = kept refl refl; sends = kept refl refl; queue = kept refl refl; copies = kept refl refl; ready = here refl })
       (record {
-        flags = told-any-if h (w .flags) (λ k v r s. v .ipc)
-            (λ k v r s. flagsFit k (record { ipc = v .ipc; send = v .send; receiving = v .receiving; poll = v .poll; mark = true }) r s) refl runs;
-        outcome = w .outcome;
-        operation = w .operation;
-        phase = w .phase;
-        queue = w .queue;
-        items = w .items;
+        other = F .own x;
+        own = record {
+          flags = told-any-if h (w .flags) (λ k v r s. v .ipc)
+              (λ k v r s. flagsFit k (record { ipc = v .ipc; send = v .send; receiving = v .receiving; poll = v .poll; mark = true }) r s) refl runs;
+          outcome = w .outcome;
+          operation = w .operation;
+          phase = w .phase;
+          queue = w .queue;
+          items = w .items;
+        };
+        queues = F .queues;
+        owners = F .owners;
+        chains = F .chains;
+        copies = copies-free n (of copiesTo T) (of ready T) x _ (no-copier F x xn mine) (F .copies);
       })
-      (kept refl refl) (kept refl refl) (kept refl refl) (kept refl refl) (kept refl refl) (here refl)
-      (F .queues) (F .owners) (F .chains)
-      (copies-free n (of copiesTo T) (of ready T) x _ (no-copier F x xn mine) (F .copies))
 
 -- ---- tick
 -- `left` of a running thread may fall
@@ -156,16 +160,22 @@ unfolding ticked readings
 tick-one-keeps n T F x xn =
     let w : Own n x (T x) = F .own x xn in
     formed-one F x (ticked (T x))
+    (record { owner = kept refl refl; held = kept refl refl; sends = kept refl refl; queue = kept refl refl; copies = kept refl refl; ready = kept refl refl })
     (record {
-      flags = w .flags;
-      outcome = w .outcome;
-      operation = fallen n x (T x .flags .ipc) (T x .op) (T x .left) _ (λ i e. rw i (left-falls (T x .left) e)) (w .operation);
-      phase = w .phase;
-      queue = w .queue;
-      items = w .items;
+      other = F .own x;
+      own = record {
+        flags = w .flags;
+        outcome = w .outcome;
+        operation = fallen n x (T x .flags .ipc) (T x .op) (T x .left) _ (λ i e. rw i (left-falls (T x .left) e)) (w .operation);
+        phase = w .phase;
+        queue = w .queue;
+        items = w .items;
+      };
+      queues = F .queues;
+      owners = F .owners;
+      chains = F .chains;
+      copies = F .copies;
     })
-    (kept refl refl) (kept refl refl) (kept refl refl) (kept refl refl) (kept refl refl) (kept refl refl)
-    (F .queues) (F .owners) (F .chains) (F .copies)
 
 -- of all threads below k
 pub tick-keeps : (t : Table) → length (t .threads) ≡ 32 → Formed (t .n) (at t) → (k : ℕ) → k ≤ t .n → Formed (t .n) (at (editBelow k ticked t))

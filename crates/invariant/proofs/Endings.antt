@@ -60,19 +60,22 @@ module _ {n : ℕ} {T : ℕ → Thread} (F : Formed n T) (x : ℕ) (xn : x < n) 
       let sends : h .flags .send ≡ true = sends-in-check F x xn p in
       let busy : (h .flags .ipc && h .flags .receiving && not (h .flags .send)) ≡ false = not-true _ (in-phase F x xn check p (λ v r s. not (v .ipc && v .receiving && not (v .send))) refl) in
       formed-changed F x target (ownAfter (abortSend c) h) (otherAfter (abortSend c) x h (T target))
-      (λ rn. own-departed (F .own target rn) x (queued sends))
+      (record { owner = kept refl refl; held = kept refl (sym (lock-held-in h check p)); sends = here refl; queue = there (to sends .apart) refl; copies = kept refl (sym (copies-in F x xn check p)); ready = kept refl (unready (ownAfter (abortSend c) h) refl ∙ sym (unready h busy)) })
       (record {
-        flags = in-phase F x xn check p (λ v r s. fitsIn release noFlags false s) refl;
-        outcome = bare-fits n c known over;
-        operation = operation-over n x _ (h .left);
-        phase = release-fits n x (h .op .send) (h .copied) (h .waking) (to sends);
-        queue = w .queue;
-        items = w .items;
+        other = λ rn. own-departed (F .own target rn) x (queued sends);
+        own = record {
+          flags = in-phase F x xn check p (λ v r s. fitsIn release noFlags false s) refl;
+          outcome = bare-fits n c known over;
+          operation = operation-over n x _ (h .left);
+          phase = release-fits n x (h .op .send) (h .copied) (h .waking) (to sends);
+          queue = w .queue;
+          items = w .items;
+        };
+        queues = left-queues sends _ (λ u. refl);
+        owners = F .owners;
+        chains = F .chains;
+        copies = F .copies;
       })
-      (kept refl refl) (kept refl (sym (lock-held-in h check p))) (here refl) (there (to sends .apart) refl) (kept refl (sym (copies-in F x xn check p)))
-      (kept refl (unready (ownAfter (abortSend c) h) refl ∙ sym (unready h busy)))
-      (left-queues sends _ (λ u. refl))
-      (F .owners) (F .chains) (F .copies)
 
   -- look: its receive is aborted
   pub abort-receive-keeps : (c : ℤ) → isCode codes c ≡ true → sameCode running c ≡ false → phaseOf (h .phase) ≡ look → h .owner ≡ nobody → Formed n (afterAction (abortReceive c) T x)
@@ -81,18 +84,22 @@ module _ {n : ℕ} {T : ℕ → Thread} (F : Formed n T) (x : ℕ) (xn : x < n) 
       let w : Own n x h = F .own x xn in
       let quiet : h .flags .send ≡ false = not-true _ (in-phase F x xn look p (λ v r s. not (v .send)) refl) in
       formed-changed F x (otherOf (abortReceive c) h) (ownAfter (abortReceive c) h) (otherAfter (abortReceive c) x h (T (otherOf (abortReceive c) h)))
-      (F .own (otherOf (abortReceive c) h))
+      (record { owner = kept refl refl; held = kept refl (sym (lock-held-in h look p)); sends = kept refl (fun-ext (λ u. sym (sends-nowhere h quiet u))); queue = kept refl refl; copies = kept refl (sym (copies-in F x xn look p)); ready = here refl })
       (record {
-        flags = in-phase F x xn look p (λ v. fitsIn idle noFlags) refl;
-        outcome = bare-fits n c known over;
-        operation = operation-over n x (h .op) (h .left);
-        phase = refl;
-        queue = w .queue;
-        items = w .items;
+        other = F .own (otherOf (abortReceive c) h);
+        own = record {
+          flags = in-phase F x xn look p (λ v. fitsIn idle noFlags) refl;
+          outcome = bare-fits n c known over;
+          operation = operation-over n x (h .op) (h .left);
+          phase = refl;
+          queue = w .queue;
+          items = w .items;
+        };
+        queues = F .queues;
+        owners = F .owners;
+        chains = F .chains;
+        copies = copies-free n (of copiesTo T) (of ready T) x _ (no-copier F x xn mine) (F .copies);
       })
-      (kept refl refl) (kept refl (sym (lock-held-in h look p))) (kept refl (fun-ext (λ u. sym (sends-nowhere h quiet u)))) (kept refl refl) (kept refl (sym (copies-in F x xn look p))) (here refl)
-      (F .queues) (F .owners) (F .chains)
-      (copies-free n (of copiesTo T) (of ready T) x _ (no-copier F x xn mine) (F .copies))
 
   -- ---- copy: its message is delivered, with a receive part or without
   module _ (p : phaseOf (h .phase) ≡ copy) (mine : h .owner ≡ nobody) where
@@ -127,18 +134,22 @@ module _ {n : ℕ} {T : ℕ → Thread} (F : Formed n T) (x : ℕ) (xn : x < n) 
     finish-call-keeps receives =
         let w : Own n x h = F .own x xn in
         formed-changed F x target (ownAfter finishCall h) (otherAfter finishCall x h (T target))
-        own-received
+        (record { owner = kept refl refl; held = kept refl (sym (lock-held-in h copy p)); sends = here receiver-silent; queue = there (to sends .apart) refl; copies = here refl; ready = both })
         (record {
-          flags = in-phase-if F x xn copy p (λ v r s. r) (λ v r s. fitsIn release (record { ipc = v .ipc; send = false; receiving = v .receiving; poll = false; mark = v .mark }) r s) refl receives;
-          outcome = w .outcome;
-          operation = operation-reloaded n x (h .flags .ipc) (h .op) (h .left) (receiveTime (h .op .receive)) (w .operation);
-          phase = release-fits n x (h .op .send) (h .copied) (h .waking) (to sends);
-          queue = w .queue;
-          items = w .items;
+          other = own-received;
+          own = record {
+            flags = in-phase-if F x xn copy p (λ v r s. r) (λ v r s. fitsIn release (record { ipc = v .ipc; send = false; receiving = v .receiving; poll = false; mark = v .mark }) r s) refl receives;
+            outcome = w .outcome;
+            operation = operation-reloaded n x (h .flags .ipc) (h .op) (h .left) (receiveTime (h .op .receive)) (w .operation);
+            phase = release-fits n x (h .op .send) (h .copied) (h .waking) (to sends);
+            queue = w .queue;
+            items = w .items;
+          };
+          queues = left-queues sends _ (λ u. refl);
+          owners = F .owners;
+          chains = F .chains;
+          copies = copies-over _ _;
         })
-        (kept refl refl) (kept refl (sym (lock-held-in h copy p))) (here receiver-silent) (there (to sends .apart) refl) (here refl) both
-        (left-queues sends _ (λ u. refl))
-        (F .owners) (F .chains) (copies-over _ _)
 
     -- without one
     pub finish-send-keeps : Formed n (afterAction finishSend T x)
@@ -146,15 +157,19 @@ module _ {n : ℕ} {T : ℕ → Thread} (F : Formed n T) (x : ℕ) (xn : x < n) 
     finish-send-keeps =
         let w : Own n x h = F .own x xn in
         formed-changed F x target (ownAfter finishSend h) (otherAfter finishSend x h (T target))
-        own-received
+        (record { owner = kept refl refl; held = kept refl (sym (lock-held-in h copy p)); sends = here receiver-silent; queue = there (to sends .apart) refl; copies = here refl; ready = both })
         (record {
-          flags = in-phase F x xn copy p (λ v. fitsIn release noFlags) refl;
-          outcome = bare-fits n done refl refl;
-          operation = operation-over n x (h .op) (h .left);
-          phase = release-fits n x (h .op .send) (h .copied) (h .waking) (to sends);
-          queue = w .queue;
-          items = w .items;
+          other = own-received;
+          own = record {
+            flags = in-phase F x xn copy p (λ v. fitsIn release noFlags) refl;
+            outcome = bare-fits n done refl refl;
+            operation = operation-over n x (h .op) (h .left);
+            phase = release-fits n x (h .op .send) (h .copied) (h .waking) (to sends);
+            queue = w .queue;
+            items = w .items;
+          };
+          queues = left-queues sends _ (λ u. refl);
+          owners = F .owners;
+          chains = F .chains;
+          copies = copies-over _ _;
         })
-        (kept refl refl) (kept refl (sym (lock-held-in h copy p))) (here receiver-silent) (there (to sends .apart) refl) (here refl) both
-        (left-queues sends _ (λ u. refl))
-        (F .owners) (F .chains) (copies-over _ _)

@@ -163,33 +163,40 @@ module _ (T : ℕ → Thread) (x r : ℕ) (f g : Thread) where
       elsewhere (there d′ k) y d e = sym (update-other (of P T) r (P g) y e)
       elsewhere both y d e = sym (update-other (update (of P T) r (P g)) x (P f) y d ∙ update-other (of P T) r (P g) y e)
 
+-- how each of the six readings changes
+pub record Changes (T : ℕ → Thread) (x r : ℕ) (f g : Thread) : Type 0 where
+  pub owner : Change T x r f g owner
+  pub held : Change T x r f g lockHeld
+  pub sends : Change T x r f g sendsTo
+  pub queue : Change T x r f g senders
+  pub copies : Change T x r f g copiesTo
+  pub ready : Change T x r f g ready
+
+-- what is left to show: of each of the two threads by itself, and of the readings afterwards
+pub record StillFormed (n : ℕ) (T : ℕ → Thread) (x r : ℕ) (f g : Thread) (c : Changes T x r f g) : Type 0 where
+  pub other : r < n → Own n r g
+  pub own : Own n x f
+  pub queues : Queues n (changed T x r f g (c .sends)) (changed T x r f g (c .queue))
+  pub owners : Owners n (changed T x r f g (c .owner)) (changed T x r f g (c .held))
+  pub chains : Chains n (changed T x r f g (c .owner))
+  pub copies : Copies n (changed T x r f g (c .copies)) (changed T x r f g (c .ready))
+
 module _ {n : ℕ} {T : ℕ → Thread} (F : Formed n T) (x : ℕ) where
-  -- the threads stay well-formed if both do and the clauses hold of the readings afterwards
-  pub formed-changed : (r : ℕ) (f g : Thread) → (r < n → Own n r g) → Own n x f
-      → (o : Change T x r f g owner) (l : Change T x r f g lockHeld) (s : Change T x r f g sendsTo)
-      → (q : Change T x r f g senders) (c : Change T x r f g copiesTo) (d : Change T x r f g ready)
-      → Queues n (changed T x r f g s) (changed T x r f g q) → Owners n (changed T x r f g o) (changed T x r f g l)
-      → Chains n (changed T x r f g o) → Copies n (changed T x r f g c) (changed T x r f g d)
-      → Formed n (update (update T r g) x f)
-  formed-changed r f g its mine o l s q c d Q O C K = record {
+  -- then the threads stay well-formed
+  pub formed-changed : (r : ℕ) (f g : Thread) (c : Changes T x r f g) → StillFormed n T x r f g c → Formed n (update (update T r g) x f)
+  formed-changed r f g c k = record {
     few = F .few;
     own = λ y. same? y x
-        (λ e yn. rw (e, update-same) mine)
+        (λ e yn. rw (e, update-same) (k .own))
         (λ i. rw (update-other (update T r g) x f y i) (same? y r
-        (λ e yn. rw (e, update-same) (its (rw e at yn)))
-        (λ k. rw (update-other T r g y k) (F .own y))));
-    queues = subst₂ (Queues n) (sym (seen T x r f g s)) (sym (seen T x r f g q)) Q;
-    owners = subst₂ (Owners n) (sym (seen T x r f g o)) (sym (seen T x r f g l)) O;
-    chains = subst (Chains n) (sym (seen T x r f g o)) C;
-    copies = subst₂ (Copies n) (sym (seen T x r f g c)) (sym (seen T x r f g d)) K;
+        (λ e yn. rw (e, update-same) (k .other (rw e at yn)))
+        (λ d. rw (update-other T r g y d) (F .own y))));
+    queues = subst₂ (Queues n) (sym (seen T x r f g (c .sends))) (sym (seen T x r f g (c .queue))) (k .queues);
+    owners = subst₂ (Owners n) (sym (seen T x r f g (c .owner))) (sym (seen T x r f g (c .held))) (k .owners);
+    chains = subst (Chains n) (sym (seen T x r f g (c .owner))) (k .chains);
+    copies = subst₂ (Copies n) (sym (seen T x r f g (c .copies))) (sym (seen T x r f g (c .ready))) (k .copies);
   }
 
   -- the same where x alone becomes f
-  pub formed-one : (f : Thread) → Own n x f
-      → (o : Change T x x f (T x) owner) (l : Change T x x f (T x) lockHeld) (s : Change T x x f (T x) sendsTo)
-      → (q : Change T x x f (T x) senders) (c : Change T x x f (T x) copiesTo) (d : Change T x x f (T x) ready)
-      → Queues n (changed T x x f (T x) s) (changed T x x f (T x) q) → Owners n (changed T x x f (T x) o) (changed T x x f (T x) l)
-      → Chains n (changed T x x f (T x) o) → Copies n (changed T x x f (T x) c) (changed T x x f (T x) d)
-      → Formed n (update T x f)
-  formed-one f mine o l s q c d Q O C K =
-      subst (λ (before : ℕ → Thread). Formed n (update before x f)) (update-own T x) (formed-changed x f (T x) (F .own x) mine o l s q c d Q O C K)
+  pub formed-one : (f : Thread) (c : Changes T x x f (T x)) → StillFormed n T x x f (T x) c → Formed n (update T x f)
+  formed-one f c k = subst (λ (before : ℕ → Thread). Formed n (update before x f)) (update-own T x) (formed-changed x f (T x) c k)

@@ -60,17 +60,22 @@ module _ {n : ℕ} {T : ℕ → Thread} (F : Formed n T) (x : ℕ) (xn : x < n) 
       let r : Other n x target = target-other w (sends-in-lock F x xn p) in
       let empty : lockHeld h ≡ nobody = lock-held-in h lock p in
       formed-changed F x target (ownAfter takeLock h) (otherAfter takeLock x h (T target))
-      (taken-other target r mine free empty)
+      (record { owner = there (r .apart) refl; held = here refl; sends = kept refl refl; queue = kept refl refl; copies = kept refl (sym (copies-in F x xn lock p)); ready = kept refl refl })
       (record {
-        flags = in-phase lock p (λ v r s. fitsIn check (record { ipc = v .ipc; send = v .send; receiving = v .receiving; poll = true; mark = v .mark }) r s) refl;
-        outcome = w .outcome;
-        operation = w .operation;
-        phase = refl;
-        queue = w .queue;
-        items = w .items;
+        other = taken-other target r mine free empty;
+        own = record {
+          flags = in-phase lock p (λ v r s. fitsIn check (record { ipc = v .ipc; send = v .send; receiving = v .receiving; poll = true; mark = v .mark }) r s) refl;
+          outcome = w .outcome;
+          operation = w .operation;
+          phase = refl;
+          queue = w .queue;
+          items = w .items;
+        };
+        queues = F .queues;
+        owners = taken-owners target r mine free empty;
+        chains = taken-chains target r mine free empty;
+        copies = F .copies;
       })
-      (there (r .apart) refl) (here refl) (kept refl refl) (kept refl refl) (kept refl (sym (copies-in F x xn lock p))) (kept refl refl)
-      (F .queues) (taken-owners target r mine free empty) (taken-chains target r mine free empty) (F .copies)
 
   -- a sender that stands in x's queue is another thread, since x does not send in look
   pub queued-other : (s : ℕ) → phaseOf (h .phase) ≡ look → 1 ≤ occurs s (senders h) → Other n x s
@@ -88,17 +93,22 @@ module _ {n : ℕ} {T : ℕ → Thread} (F : Formed n T) (x : ℕ) (xn : x < n) 
       let r : Other n x s = queued-other s p queued in
       let empty : lockHeld h ≡ nobody = lock-held-in h look p in
       formed-changed F x s (ownAfter (takeSender s) h) (otherAfter (takeSender s) x h (T s))
-      (taken-other s r mine free empty)
+      (record { owner = there (r .apart) refl; held = here refl; sends = kept refl refl; queue = kept refl refl; copies = kept refl (sym (copies-in F x xn look p)); ready = kept refl refl })
       (record {
-        flags = in-phase look p (fitsIn wake) refl;
-        outcome = w .outcome;
-        operation = w .operation;
-        phase = wake-fits n x (h .op .send) (h .copied) s (r .below);
-        queue = w .queue;
-        items = w .items;
+        other = taken-other s r mine free empty;
+        own = record {
+          flags = in-phase look p (fitsIn wake) refl;
+          outcome = w .outcome;
+          operation = w .operation;
+          phase = wake-fits n x (h .op .send) (h .copied) s (r .below);
+          queue = w .queue;
+          items = w .items;
+        };
+        queues = F .queues;
+        owners = taken-owners s r mine free empty;
+        chains = taken-chains s r mine free empty;
+        copies = F .copies;
       })
-      (there (r .apart) refl) (here refl) (kept refl refl) (kept refl refl) (kept refl (sym (copies-in F x xn look p))) (kept refl refl)
-      (F .queues) (taken-owners s r mine free empty) (taken-chains s r mine free empty) (F .copies)
 
   -- ---- x frees the lock of r, which it holds in phase p, and goes to a phase q that holds none
   freed-keeps : (r : ℕ) → Other n x r → lockHeld h ≡ r → copiesTo h ≡ nobody → (q : Phase) → FlagsFit (entering q h)
@@ -107,14 +117,16 @@ module _ {n : ℕ} {T : ℕ → Thread} (F : Formed n T) (x : ℕ) (xn : x < n) 
   unfolding readings nobodyOrBelow
   freed-keeps r other has calm q flags empty still fits =
       formed-changed F x r (entering q h) (withOwner nobody (T r))
-      (λ rn. own-owner (F .own r rn) nobody refl)
-      (own-entering (F .own x xn) q flags fits)
-      (there (other .apart) refl) (here refl) (kept refl refl) (kept refl refl) (kept refl (still ∙ sym calm)) (kept refl refl)
-      (F .queues)
-      (subst (λ (held : ℕ). Owners n (update (of owner T) r nobody) (update (of lockHeld T) x held)) (sym empty)
-      (owners-free n (few F) (of owner T) (of lockHeld T) x r xn (other .below) has (F .owners)))
-      (chains-free n (few F) (of owner T) r (other .below) (F .chains))
-      (F .copies)
+      (record { owner = there (other .apart) refl; held = here refl; sends = kept refl refl; queue = kept refl refl; copies = kept refl (still ∙ sym calm); ready = kept refl refl })
+      (record {
+        other = λ rn. own-owner (F .own r rn) nobody refl;
+        own = own-entering (F .own x xn) q flags fits;
+        queues = F .queues;
+        owners = subst (λ (held : ℕ). Owners n (update (of owner T) r nobody) (update (of lockHeld T) x held)) (sym empty)
+            (owners-free n (few F) (of owner T) (of lockHeld T) x r xn (other .below) has (F .owners));
+        chains = chains-free n (few F) (of owner T) r (other .below) (F .chains);
+        copies = F .copies;
+      })
 
   -- release: of its target, and it goes on by its flags
   module _ (p : phaseOf (h .phase) ≡ release) where
@@ -151,17 +163,22 @@ module _ {n : ℕ} {T : ℕ → Thread} (F : Formed n T) (x : ℕ) (xn : x < n) 
   start-copy-keeps p now =
       let w : Own n x h = F .own x xn in
       formed-changed F x target (ownAfter startCopy h) (otherAfter startCopy x h (T target))
-      (F .own target)
+      (record { owner = kept refl refl; held = kept refl (sym (lock-held-in h check p)); sends = kept refl refl; queue = kept refl refl; copies = here refl; ready = kept refl refl })
       (record {
-        flags = in-phase check p (fitsIn copy) refl;
-        outcome = w .outcome;
-        operation = w .operation;
-        phase = copy-fits n x (h .op .send) 0 (h .waking) (omega arith);
-        queue = w .queue;
-        items = w .items;
+        other = F .own target;
+        own = record {
+          flags = in-phase check p (fitsIn copy) refl;
+          outcome = w .outcome;
+          operation = w .operation;
+          phase = copy-fits n x (h .op .send) 0 (h .waking) (omega arith);
+          queue = w .queue;
+          items = w .items;
+        };
+        queues = F .queues;
+        owners = F .owners;
+        chains = F .chains;
+        copies = copies-start n (of copiesTo T) (of ready T) x target now (F .copies);
       })
-      (kept refl refl) (kept refl (sym (lock-held-in h check p))) (kept refl refl) (kept refl refl) (here refl) (kept refl refl)
-      (F .queues) (F .owners) (F .chains) (copies-start n (of copiesTo T) (of ready T) x target now (F .copies))
 
   -- check: its target is not ready and time is left
   pub to-release-keeps : phaseOf (h .phase) ≡ check → Formed n (afterAction toRelease T x)
@@ -169,11 +186,16 @@ module _ {n : ℕ} {T : ℕ → Thread} (F : Formed n T) (x : ℕ) (xn : x < n) 
   to-release-keeps p =
       let w : Own n x h = F .own x xn in
       formed-changed F x target (ownAfter toRelease h) (otherAfter toRelease x h (T target))
-      (F .own target)
-      (own-entering w release (in-phase check p (fitsIn release) refl)
-      (release-fits n x (h .op .send) (h .copied) (h .waking) (target-other w (sends-in-check F x xn p))))
-      (kept refl refl) (kept refl (sym (lock-held-in h check p))) (kept refl refl) (kept refl refl) (kept refl (sym (copies-in F x xn check p))) (kept refl refl)
-      (F .queues) (F .owners) (F .chains) (F .copies)
+      (record { owner = kept refl refl; held = kept refl (sym (lock-held-in h check p)); sends = kept refl refl; queue = kept refl refl; copies = kept refl (sym (copies-in F x xn check p)); ready = kept refl refl })
+      (record {
+        other = F .own target;
+        own = own-entering w release (in-phase check p (fitsIn release) refl)
+            (release-fits n x (h .op .send) (h .copied) (h .waking) (target-other w (sends-in-check F x xn p)));
+        queues = F .queues;
+        owners = F .owners;
+        chains = F .chains;
+        copies = F .copies;
+      })
 
   -- copy: one word more
   pub copy-word-keeps : phaseOf (h .phase) ≡ copy → h .copied < h .op .send .count → Formed n (afterAction copyWord T x)
@@ -181,45 +203,51 @@ module _ {n : ℕ} {T : ℕ → Thread} (F : Formed n T) (x : ℕ) (xn : x < n) 
   copy-word-keeps p more =
       let w : Own n x h = F .own x xn in
       formed-changed F x target (ownAfter copyWord h) (otherAfter copyWord x h (T target))
-      (F .own target)
+      (record { owner = kept refl refl; held = kept refl refl; sends = kept refl refl; queue = kept refl refl; copies = kept refl refl; ready = kept refl refl })
       (record {
-        flags = w .flags;
-        outcome = w .outcome;
-        operation = w .operation;
-        phase = rw (number F x xn copy p) (copy-fits n x (h .op .send) (h .copied + 1) (h .waking) (omega arith));
-        queue = w .queue;
-        items = w .items;
+        other = F .own target;
+        own = record {
+          flags = w .flags;
+          outcome = w .outcome;
+          operation = w .operation;
+          phase = rw (number F x xn copy p) (copy-fits n x (h .op .send) (h .copied + 1) (h .waking) (omega arith));
+          queue = w .queue;
+          items = w .items;
+        };
+        queues = F .queues;
+        owners = F .owners;
+        chains = F .chains;
+        copies = F .copies;
       })
-      (kept refl refl) (kept refl refl) (kept refl refl) (kept refl refl) (kept refl refl) (kept refl refl)
-      (F .queues) (F .owners) (F .chains) (F .copies)
 
   -- sleep: it tries again
   pub retry-keeps : phaseOf (h .phase) ≡ sleep → Formed n (afterAction retry T x)
   unfolding ownAfter otherAfter readings cases phaseFits
   retry-keeps p =
       formed-changed F x (otherOf retry h) (ownAfter retry h) (otherAfter retry x h (T (otherOf retry h)))
-      (F .own (otherOf retry h))
-      (own-entering (F .own x xn) lock (in-phase sleep p (fitsIn lock) refl) refl)
-      (kept refl refl) (kept refl (sym (lock-held-in h sleep p))) (kept refl refl) (kept refl refl) (kept refl (sym (copies-in F x xn sleep p))) (kept refl refl)
-      (F .queues) (F .owners) (F .chains) (F .copies)
+      (record { owner = kept refl refl; held = kept refl (sym (lock-held-in h sleep p)); sends = kept refl refl; queue = kept refl refl; copies = kept refl (sym (copies-in F x xn sleep p)); ready = kept refl refl })
+      (record { other = F .own (otherOf retry h); own = own-entering (F .own x xn) lock (in-phase sleep p (fitsIn lock) refl) refl; queues = F .queues; owners = F .owners; chains = F .chains; copies = F .copies })
 
   -- look: nothing runs any more
   pub to-idle-keeps : phaseOf (h .phase) ≡ look → h .flags .ipc ≡ false → Formed n (afterAction toIdle T x)
   unfolding ownAfter otherAfter readings cases phaseFits
   to-idle-keeps p over =
       formed-changed F x (otherOf toIdle h) (ownAfter toIdle h) (otherAfter toIdle x h (T (otherOf toIdle h)))
-      (F .own (otherOf toIdle h))
-      (own-entering (F .own x xn) idle (in-phase-if look p (λ v r s. not (v .ipc)) (fitsIn idle) refl (rw over refl)) refl)
-      (kept refl refl) (kept refl (sym (lock-held-in h look p))) (kept refl refl) (kept refl refl) (kept refl (sym (copies-in F x xn look p))) (kept refl refl)
-      (F .queues) (F .owners) (F .chains) (F .copies)
+      (record { owner = kept refl refl; held = kept refl (sym (lock-held-in h look p)); sends = kept refl refl; queue = kept refl refl; copies = kept refl (sym (copies-in F x xn look p)); ready = kept refl refl })
+      (record { other = F .own (otherOf toIdle h); own = own-entering (F .own x xn) idle (in-phase-if look p (λ v r s. not (v .ipc)) (fitsIn idle) refl (rw over refl)) refl; queues = F .queues; owners = F .owners; chains = F .chains; copies = F .copies })
 
   -- wake: it clears the sender's `poll`
   pub clear-poll-keeps : phaseOf (h .phase) ≡ wake → Formed n (afterAction clearPoll T x)
   unfolding ownAfter otherAfter readings cases
   clear-poll-keeps p =
       formed-changed F x (h .waking) (ownAfter clearPoll h) (otherAfter clearPoll x h (T (h .waking)))
-      (λ rn. own-unpolled (F .own (h .waking) rn))
-      (own-entering (F .own x xn) unlock (in-phase wake p (fitsIn unlock) refl)
-      (unlock-fits n x (h .op .send) (h .copied) (h .waking) (woken-in-wake F x xn p .below)))
-      (kept refl refl) (kept refl (sym (lock-held-in h wake p))) (kept refl refl) (kept refl refl) (kept refl (sym (copies-in F x xn wake p))) (kept refl refl)
-      (F .queues) (F .owners) (F .chains) (F .copies)
+      (record { owner = kept refl refl; held = kept refl (sym (lock-held-in h wake p)); sends = kept refl refl; queue = kept refl refl; copies = kept refl (sym (copies-in F x xn wake p)); ready = kept refl refl })
+      (record {
+        other = λ rn. own-unpolled (F .own (h .waking) rn);
+        own = own-entering (F .own x xn) unlock (in-phase wake p (fitsIn unlock) refl)
+            (unlock-fits n x (h .op .send) (h .copied) (h .waking) (woken-in-wake F x xn p .below));
+        queues = F .queues;
+        owners = F .owners;
+        chains = F .chains;
+        copies = F .copies;
+      })
