@@ -26,8 +26,7 @@ use Rattle.invariant.proofs.Own.{outcomeFits, operationFits, phaseFits,
 use Rattle.invariant.proofs.Changes.{bare-fits, own-joined, own-ended}
 use Rattle.invariant.proofs.Globals.{queues-join, copies-free}
 use Rattle.invariant.proofs.Formed.{owner, copiesTo, readings, of, Formed, kept, here, there, formed-changed, formed-one}
-use Rattle.invariant.proofs.Neighbours.{copies-in, sends-nowhere, queue-room, no-copier}
-use Rattle.invariant.proofs.Moves.{in-phase}
+use Rattle.invariant.proofs.Neighbours.{copies-in, sends-nowhere, queue-room, no-copier, in-phase}
 
 -- what is asked of an operation that thread x begins in a table of n threads
 pub record CanBegin (n x : ℕ) (o : Operation) : Type 0 where

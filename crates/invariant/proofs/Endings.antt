@@ -16,16 +16,15 @@ use Rattle.laws.proofs.Lists.{update-same, update-other}
 use Rattle.laws.proofs.Phases.{lock-held-in}
 use Rattle.laws.proofs.Ready.{ready-read, not-ready}
 use Rattle.laws.proofs.Queues.{senders-departed}
-use Rattle.laws.proofs.Decided.{otherOf}
+use Rattle.laws.proofs.Decided.{otherOf, afterAction}
 use Rattle.invariant.proofs.Flags.{cases, fitsIn}
 use Rattle.invariant.proofs.Own.{phaseFits, Own}
 use Rattle.invariant.proofs.Facts.{Other, target-other, count-small, queue-small}
 use Rattle.invariant.proofs.Changes.{operation-over, operation-reloaded, release-fits, bare-fits, received-fits, own-departed, own-ended}
 use Rattle.invariant.proofs.Globals.{Queues, Copies, queues-leave, copies-end, copies-free}
 use Rattle.invariant.proofs.Formed.{owner, copiesTo, readings, of, Formed, kept, here, there, both, formed-changed}
-use Rattle.invariant.proofs.Neighbours.{few, copies-in, sends-to, sends-nowhere, sends-in-check, sends-in-copy, queued-at-target, no-copier}
+use Rattle.invariant.proofs.Neighbours.{few, copies-in, sends-to, sends-nowhere, sends-in-check, sends-in-copy, queued-at-target, no-copier, in-phase, in-phase-if}
 use Rattle.invariant.proofs.Receivers.{receiver-ready, copies-alone}
-use Rattle.invariant.proofs.Moves.{afterAction, in-phase, in-phase-if}
 
 module _ {n : ℕ} {T : ℕ → Thread} (F : Formed n T) (x : ℕ) (xn : x < n) where
   abbrev h : Thread

@@ -6,6 +6,7 @@ pub mod Formed
 pub mod Changes
 pub mod Neighbours
 pub mod Receivers
+pub mod Locking
 pub mod Moves
 pub mod Endings
 pub mod Steps

@@ -1,29 +1,20 @@
--- The actions of a step by which no operation ends: each keeps the threads well-formed.
-use mathlib.Core.Path.{_≡_, refl, sym, _∙_, subst}
-use mathlib.Core.Logic.{_≢_}
-use mathlib.Core.Bool.{true≢false, true, false, not}
-use Prim.Native.Nat.{ℕ, _+_, _≤_, _<_}
+-- The actions of a step by which no lock changes and no operation ends: each keeps the threads well-formed.
+use mathlib.Core.Path.{_≡_, refl, sym}
+use mathlib.Core.Bool.{true, false, not}
+use Prim.Native.Nat.{ℕ, _+_, _<_}
 use native.Mathlib.Omega.{arith}
-use borrow.Author.Tests.{not-true}
 use Rattle.model.specs.declared.Thread.{Thread}
-use Rattle.model.specs.Lists.{implies, update, occurs}
-use Rattle.model.specs.Shared.{nobody, hasReceive}
-use Rattle.model.specs.Threads.{Phase, idle, lock, check, copy, release, sleep, look, wake, unlock, phaseOf, phaseNumber, entering, withOwner, senders, ready, lockHeld}
-use Rattle.model.specs.WellFormed.{nobodyOrBelow, sendsTo}
-use Rattle.model.specs.Step.{Action, takeLock, startCopy, toRelease, copyWord, freeTarget, retry, toIdle, takeSender, clearPoll, freeSender, ownAfter, otherAfter}
+use Rattle.model.specs.Threads.{idle, lock, check, copy, release, sleep, look, wake, unlock, phaseOf, ready}
+use Rattle.model.specs.Step.{startCopy, toRelease, copyWord, retry, toIdle, clearPoll, ownAfter, otherAfter}
 use Rattle.laws.proofs.Phases.{lock-held-in}
-use Rattle.laws.proofs.Decided.{otherOf}
-use Rattle.invariant.proofs.Flags.{cases, FlagTest, FlagsFit, Follows, told, told-if, fitsIn}
+use Rattle.laws.proofs.Decided.{otherOf, afterAction}
+use Rattle.invariant.proofs.Flags.{cases, fitsIn}
 use Rattle.invariant.proofs.Own.{phaseFits, Own}
-use Rattle.invariant.proofs.Facts.{Other, target-other}
-use Rattle.invariant.proofs.Changes.{owner-below, release-fits, copy-fits, wake-fits, unlock-fits, own-owner, own-unpolled, own-entering}
-use Rattle.invariant.proofs.Globals.{Owners, Chains, owners-take, owners-free, chains-take, chains-free, copies-start}
-use Rattle.invariant.proofs.Formed.{owner, copiesTo, readings, of, Formed, kept, here, there, formed-changed}
-use Rattle.invariant.proofs.Neighbours.{few, number, copies-in, sends-in-lock, sends-in-check, target-in-release, woken-in-wake, woken-in-unlock, queued-sends, sends-nowhere}
-
--- the threads after an action of thread x
-abbrev pub afterAction : Action → (ℕ → Thread) → ℕ → ℕ → Thread
-afterAction a T x = update (update T (otherOf a (T x)) (otherAfter a x (T x) (T (otherOf a (T x))))) x (ownAfter a (T x))
+use Rattle.invariant.proofs.Facts.{target-other}
+use Rattle.invariant.proofs.Changes.{release-fits, copy-fits, unlock-fits, own-unpolled, own-entering}
+use Rattle.invariant.proofs.Globals.{copies-start}
+use Rattle.invariant.proofs.Formed.{owner, copiesTo, readings, of, Formed, kept, here, formed-changed}
+use Rattle.invariant.proofs.Neighbours.{number, copies-in, sends-in-check, woken-in-wake, in-phase, in-phase-if}
 
 module _ {n : ℕ} {T : ℕ → Thread} (F : Formed n T) (x : ℕ) (xn : x < n) where
   abbrev h : Thread
@@ -32,131 +23,6 @@ module _ {n : ℕ} {T : ℕ → Thread} (F : Formed n T) (x : ℕ) (xn : x < n) 
   abbrev target : ℕ
   target = T x .op .send .target
 
-  -- of x, which is in phase p, a test follows from its flags
-  pub in-phase : (p : Phase) → phaseOf (h .phase) ≡ p → (f : FlagTest) → Follows (phaseNumber p) f → f (h .flags) (hasReceive (h .op .receive)) (h .op .send .present) ≡ true
-  in-phase p e f t = told h (F .own x xn .flags) (phaseNumber p) (number F x xn p e) f t
-
-  -- and where g holds of them too
-  pub in-phase-if : (p : Phase) → phaseOf (h .phase) ≡ p → (g f : FlagTest) → Follows (phaseNumber p) (λ v r s. implies (g v r s) (f v r s))
-      → g (h .flags) (hasReceive (h .op .receive)) (h .op .send .present) ≡ true → f (h .flags) (hasReceive (h .op .receive)) (h .op .send .present) ≡ true
-  in-phase-if p e g f t k = told-if h (F .own x xn .flags) (phaseNumber p) (number F x xn p e) g f t k
-
-  -- ---- x takes a lock that nobody owns
-  module _ (r : ℕ) (other : Other n x r) (mine : h .owner ≡ nobody) (free : T r .owner ≡ nobody) (empty : lockHeld h ≡ nobody) where
-    taken-owners : Owners n (update (of owner T) r x) (update (of lockHeld T) x r)
-    taken-owners = owners-take n (few F) (of owner T) (of lockHeld T) x r xn (other .below) free empty (F .owners)
-
-    taken-chains : Chains n (update (of owner T) r x)
-    taken-chains = chains-take n (few F) (of owner T) x r xn (other .below) mine (λ e. other .apart (sym e)) (F .chains)
-
-    taken-other : r < n → Own n r (withOwner x (T r))
-    taken-other rn = own-owner (F .own r rn) x (owner-below n x xn)
-
-  -- lock: of its target
-  pub take-lock-keeps : phaseOf (h .phase) ≡ lock → h .owner ≡ nobody → T target .owner ≡ nobody → Formed n (afterAction takeLock T x)
-  unfolding ownAfter otherAfter readings cases phaseFits
-  take-lock-keeps p mine free =
-      let w : Own n x h = F .own x xn in
-      let r : Other n x target = target-other w (sends-in-lock F x xn p) in
-      let empty : lockHeld h ≡ nobody = lock-held-in h lock p in
-      formed-changed F x target (ownAfter takeLock h) (otherAfter takeLock x h (T target))
-      (record { owner = there (r .apart) refl; held = here refl; sends = kept refl refl; queue = kept refl refl; copies = kept refl (sym (copies-in F x xn lock p)); ready = kept refl refl })
-      (record {
-        other = taken-other target r mine free empty;
-        own = record {
-          flags = in-phase lock p (λ v r s. fitsIn check (record { ipc = v .ipc; send = v .send; receiving = v .receiving; poll = true; mark = v .mark }) r s) refl;
-          outcome = w .outcome;
-          operation = w .operation;
-          phase = refl;
-          queue = w .queue;
-          items = w .items;
-        };
-        queues = F .queues;
-        owners = taken-owners target r mine free empty;
-        chains = taken-chains target r mine free empty;
-        copies = F .copies;
-      })
-
-  -- a sender that stands in x's queue is another thread, since x does not send in look
-  pub queued-other : (s : ℕ) → phaseOf (h .phase) ≡ look → 1 ≤ occurs s (senders h) → Other n x s
-  unfolding cases
-  queued-other s p queued =
-      let (sn, sends) = queued-sends F x s xn queued in
-      let quiet : sendsTo h x ≡ false = sends-nowhere h (not-true (h .flags .send) (in-phase look p (λ v r s. not (v .send)) refl)) x in
-      record { below = sn; apart = λ e. let z : sendsTo h x ≡ true = rw e at sends in true≢false (sym z ∙ quiet) }
-
-  -- look: of a queued sender
-  pub take-sender-keeps : (s : ℕ) → phaseOf (h .phase) ≡ look → h .owner ≡ nobody → 1 ≤ occurs s (senders h) → T s .owner ≡ nobody → Formed n (afterAction (takeSender s) T x)
-  unfolding ownAfter otherAfter readings cases
-  take-sender-keeps s p mine queued free =
-      let w : Own n x h = F .own x xn in
-      let r : Other n x s = queued-other s p queued in
-      let empty : lockHeld h ≡ nobody = lock-held-in h look p in
-      formed-changed F x s (ownAfter (takeSender s) h) (otherAfter (takeSender s) x h (T s))
-      (record { owner = there (r .apart) refl; held = here refl; sends = kept refl refl; queue = kept refl refl; copies = kept refl (sym (copies-in F x xn look p)); ready = kept refl refl })
-      (record {
-        other = taken-other s r mine free empty;
-        own = record {
-          flags = in-phase look p (fitsIn wake) refl;
-          outcome = w .outcome;
-          operation = w .operation;
-          phase = wake-fits n x (h .op .send) (h .copied) s (r .below);
-          queue = w .queue;
-          items = w .items;
-        };
-        queues = F .queues;
-        owners = taken-owners s r mine free empty;
-        chains = taken-chains s r mine free empty;
-        copies = F .copies;
-      })
-
-  -- ---- x frees the lock of r, which it holds in phase p, and goes to a phase q that holds none
-  freed-keeps : (r : ℕ) → Other n x r → lockHeld h ≡ r → copiesTo h ≡ nobody → (q : Phase) → FlagsFit (entering q h)
-      → lockHeld (entering q h) ≡ nobody → copiesTo (entering q h) ≡ nobody → phaseFits n x (phaseNumber q) (h .op .send) (h .copied) (h .waking) ≡ true
-      → Formed n (update (update T r (withOwner nobody (T r))) x (entering q h))
-  unfolding readings nobodyOrBelow
-  freed-keeps r other has calm q flags empty still fits =
-      formed-changed F x r (entering q h) (withOwner nobody (T r))
-      (record { owner = there (other .apart) refl; held = here refl; sends = kept refl refl; queue = kept refl refl; copies = kept refl (still ∙ sym calm); ready = kept refl refl })
-      (record {
-        other = λ rn. own-owner (F .own r rn) nobody refl;
-        own = own-entering (F .own x xn) q flags fits;
-        queues = F .queues;
-        owners = subst (λ (held : ℕ). Owners n (update (of owner T) r nobody) (update (of lockHeld T) x held)) (sym empty)
-            (owners-free n (few F) (of owner T) (of lockHeld T) x r xn (other .below) has (F .owners));
-        chains = chains-free n (few F) (of owner T) r (other .below) (F .chains);
-        copies = F .copies;
-      })
-
-  -- release: of its target, and it goes on by its flags
-  module _ (p : phaseOf (h .phase) ≡ release) where
-    released : (q : Phase) → FlagsFit (entering q h) → lockHeld (entering q h) ≡ nobody → copiesTo (entering q h) ≡ nobody
-        → phaseFits n x (phaseNumber q) (h .op .send) (h .copied) (h .waking) ≡ true → Formed n (afterAction (freeTarget q) T x)
-    unfolding ownAfter otherAfter cases
-    released q = freed-keeps target (target-in-release F x xn p) (lock-held-in h release p) (copies-in F x xn release p) q
-
-    -- to sleep
-    pub release-to-sleep-keeps : h .flags .send ≡ true → Formed n (afterAction (freeTarget sleep) T x)
-    unfolding readings cases phaseFits
-    release-to-sleep-keeps e = released sleep (in-phase-if release p (λ v r s. v .send) (fitsIn sleep) refl e) refl refl refl
-
-    -- to look
-    pub release-to-look-keeps : h .flags .send ≡ false → Formed n (afterAction (freeTarget look) T x)
-    unfolding readings cases phaseFits
-    release-to-look-keeps e = released look (in-phase-if release p (λ v r s. not (v .send)) (fitsIn look) refl (rw e refl)) refl refl refl
-
-    -- to idle
-    pub release-to-idle-keeps : h .flags .ipc ≡ false → Formed n (afterAction (freeTarget idle) T x)
-    unfolding readings cases phaseFits
-    release-to-idle-keeps e = released idle (in-phase-if release p (λ v r s. not (v .ipc)) (fitsIn idle) refl (rw e refl)) refl refl refl
-
-  -- unlock: of the sender that it has woken
-  pub free-sender-keeps : phaseOf (h .phase) ≡ unlock → Formed n (afterAction freeSender T x)
-  unfolding ownAfter otherAfter readings cases phaseFits
-  free-sender-keeps p = freed-keeps (h .waking) (woken-in-unlock F x xn p) (lock-held-in h unlock p) (copies-in F x xn unlock p) look
-      (in-phase unlock p (fitsIn look) refl) refl refl refl
-
-  -- ---- x changes no lock
   -- check: it starts to copy to a target that is ready
   pub start-copy-keeps : phaseOf (h .phase) ≡ check → ready (T target) x ≡ true → Formed n (afterAction startCopy T x)
   unfolding ownAfter otherAfter readings cases
@@ -167,7 +33,7 @@ module _ {n : ℕ} {T : ℕ → Thread} (F : Formed n T) (x : ℕ) (xn : x < n) 
       (record {
         other = F .own target;
         own = record {
-          flags = in-phase check p (fitsIn copy) refl;
+          flags = in-phase F x xn check p (fitsIn copy) refl;
           outcome = w .outcome;
           operation = w .operation;
           phase = copy-fits n x (h .op .send) 0 (h .waking) (omega arith);
@@ -189,7 +55,7 @@ module _ {n : ℕ} {T : ℕ → Thread} (F : Formed n T) (x : ℕ) (xn : x < n) 
       (record { owner = kept refl refl; held = kept refl (sym (lock-held-in h check p)); sends = kept refl refl; queue = kept refl refl; copies = kept refl (sym (copies-in F x xn check p)); ready = kept refl refl })
       (record {
         other = F .own target;
-        own = own-entering w release (in-phase check p (fitsIn release) refl)
+        own = own-entering w release (in-phase F x xn check p (fitsIn release) refl)
             (release-fits n x (h .op .send) (h .copied) (h .waking) (target-other w (sends-in-check F x xn p)));
         queues = F .queues;
         owners = F .owners;
@@ -226,7 +92,7 @@ module _ {n : ℕ} {T : ℕ → Thread} (F : Formed n T) (x : ℕ) (xn : x < n) 
   retry-keeps p =
       formed-changed F x (otherOf retry h) (ownAfter retry h) (otherAfter retry x h (T (otherOf retry h)))
       (record { owner = kept refl refl; held = kept refl (sym (lock-held-in h sleep p)); sends = kept refl refl; queue = kept refl refl; copies = kept refl (sym (copies-in F x xn sleep p)); ready = kept refl refl })
-      (record { other = F .own (otherOf retry h); own = own-entering (F .own x xn) lock (in-phase sleep p (fitsIn lock) refl) refl; queues = F .queues; owners = F .owners; chains = F .chains; copies = F .copies })
+      (record { other = F .own (otherOf retry h); own = own-entering (F .own x xn) lock (in-phase F x xn sleep p (fitsIn lock) refl) refl; queues = F .queues; owners = F .owners; chains = F .chains; copies = F .copies })
 
   -- look: nothing runs any more
   pub to-idle-keeps : phaseOf (h .phase) ≡ look → h .flags .ipc ≡ false → Formed n (afterAction toIdle T x)
@@ -234,7 +100,7 @@ module _ {n : ℕ} {T : ℕ → Thread} (F : Formed n T) (x : ℕ) (xn : x < n) 
   to-idle-keeps p over =
       formed-changed F x (otherOf toIdle h) (ownAfter toIdle h) (otherAfter toIdle x h (T (otherOf toIdle h)))
       (record { owner = kept refl refl; held = kept refl (sym (lock-held-in h look p)); sends = kept refl refl; queue = kept refl refl; copies = kept refl (sym (copies-in F x xn look p)); ready = kept refl refl })
-      (record { other = F .own (otherOf toIdle h); own = own-entering (F .own x xn) idle (in-phase-if look p (λ v r s. not (v .ipc)) (fitsIn idle) refl (rw over refl)) refl; queues = F .queues; owners = F .owners; chains = F .chains; copies = F .copies })
+      (record { other = F .own (otherOf toIdle h); own = own-entering (F .own x xn) idle (in-phase-if F x xn look p (λ v r s. not (v .ipc)) (fitsIn idle) refl (rw over refl)) refl; queues = F .queues; owners = F .owners; chains = F .chains; copies = F .copies })
 
   -- wake: it clears the sender's `poll`
   pub clear-poll-keeps : phaseOf (h .phase) ≡ wake → Formed n (afterAction clearPoll T x)
@@ -244,7 +110,7 @@ module _ {n : ℕ} {T : ℕ → Thread} (F : Formed n T) (x : ℕ) (xn : x < n) 
       (record { owner = kept refl refl; held = kept refl (sym (lock-held-in h wake p)); sends = kept refl refl; queue = kept refl refl; copies = kept refl (sym (copies-in F x xn wake p)); ready = kept refl refl })
       (record {
         other = λ rn. own-unpolled (F .own (h .waking) rn);
-        own = own-entering (F .own x xn) unlock (in-phase wake p (fitsIn unlock) refl)
+        own = own-entering (F .own x xn) unlock (in-phase F x xn wake p (fitsIn unlock) refl)
             (unlock-fits n x (h .op .send) (h .copied) (h .waking) (woken-in-wake F x xn p .below));
         queues = F .queues;
         owners = F .owners;

@@ -8,15 +8,15 @@ use native.Mathlib.Omega.{arith}
 use lib.Dec.{eqb, ltb}
 use borrow.Author.Tests.{eq-eqb, ne-eqb, ltb-true, lt-ltb, le-ltb}
 use Rattle.model.specs.declared.Thread.{Thread}
-use Rattle.model.specs.Lists.{bit, occurs}
-use Rattle.model.specs.Shared.{nobody}
+use Rattle.model.specs.Lists.{bit, occurs, implies}
+use Rattle.model.specs.Shared.{nobody, hasReceive}
 use Rattle.model.specs.Threads.{Phase, lock, check, copy, release, wake, unlock, phaseOf, phaseNumber, senders, lockHeldIn}
 use Rattle.model.specs.WellFormed.{sendsTo}
 use Rattle.model.proofs.Laws.{by, same?, and-left, and-right, few-enough}
 use Rattle.laws.proofs.Lists.{bit-small}
 use Rattle.laws.proofs.Phases.{phase-number, lock-held-in}
 use Rattle.laws.proofs.Queues.{senders-length}
-use Rattle.invariant.proofs.Flags.{cases, Follows, isOneOf, told, phase-small}
+use Rattle.invariant.proofs.Flags.{cases, Follows, isOneOf, told, phase-small, FlagTest, told-if}
 use Rattle.invariant.proofs.Facts.{Other, target-other, queue-small, target-below, woken-below}
 use Rattle.invariant.proofs.Globals.{not-own-owner}
 use Rattle.invariant.proofs.Formed.{Formed, copiesTo}
@@ -54,10 +54,20 @@ module _ {n : ℕ} {T : ℕ → Thread} (F : Formed n T) where
       apart = λ i. not-own-owner n few (λ r. T r .owner) (F .chains) x xn (F .owners x x xn xn .1 (lock-held-in (T x) p e ∙ i));
     }
 
+  module _ (x : ℕ) (xn : x < n) where
+    -- of x, which is in phase p, a test follows from its flags
+    pub in-phase : (p : Phase) → phaseOf (T x .phase) ≡ p → (f : FlagTest) → Follows (phaseNumber p) f → f (T x .flags) (hasReceive (T x .op .receive)) (T x .op .send .present) ≡ true
+    in-phase p e f t = told (T x) (F .own x xn .flags) (phaseNumber p) (number x xn p e) f t
+
+    -- and where g holds of them too
+    pub in-phase-if : (p : Phase) → phaseOf (T x .phase) ≡ p → (g f : FlagTest) → Follows (phaseNumber p) (λ v r s. implies (g v r s) (f v r s))
+        → g (T x .flags) (hasReceive (T x .op .receive)) (T x .op .send .present) ≡ true → f (T x .flags) (hasReceive (T x .op .receive)) (T x .op .send .present) ≡ true
+    in-phase-if p e g f t k = told-if (T x) (F .own x xn .flags) (phaseNumber p) (number x xn p e) g f t k
+
   -- the target of a thread in check, copy or release, and the sender that is woken in wake or unlock
   module _ (x : ℕ) (xn : x < n) where
     sending : (p : Phase) → phaseOf (T x .phase) ≡ p → Follows (phaseNumber p) (λ v r s. v .send) → T x .flags .send ≡ true
-    sending p e t = told (T x) (F .own x xn .flags) (phaseNumber p) (number x xn p e) (λ v r s. v .send) t
+    sending p e t = in-phase x xn p e (λ v r s. v .send) t
 
     -- lock
     pub sends-in-lock : phaseOf (T x .phase) ≡ lock → T x .flags .send ≡ true

@@ -15,11 +15,12 @@ use Rattle.model.specs.Step.{Action, stay, takeLock, abortSend, startCopy, toRe
 use Rattle.laws.proofs.Lists.{update-own}
 use Rattle.laws.proofs.Tables.{act-at}
 use Rattle.laws.proofs.Search.{found-queued}
-use Rattle.laws.proofs.Decided.{Fits, AbortsSend, AbortsReceive, GoesOn, sending, receiving, ended, decided, own-lock-free, lock-free-read, otherOf, other-is}
+use Rattle.laws.proofs.Decided.{Fits, AbortsSend, AbortsReceive, GoesOn, sending, receiving, ended, decided, own-lock-free, lock-free-read, otherOf, other-is, afterAction}
 use Rattle.invariant.proofs.Facts.{target-other}
 use Rattle.invariant.proofs.Formed.{Formed}
 use Rattle.invariant.proofs.Neighbours.{sends-in-lock, sends-in-check, sends-in-copy, target-in-release, woken-in-wake, woken-in-unlock}
-use Rattle.invariant.proofs.Moves.{afterAction, queued-other, take-lock-keeps, take-sender-keeps, release-to-sleep-keeps, release-to-look-keeps, release-to-idle-keeps, free-sender-keeps, start-copy-keeps, to-release-keeps, copy-word-keeps, retry-keeps, to-idle-keeps, clear-poll-keeps}
+use Rattle.invariant.proofs.Locking.{queued-other, take-lock-keeps, take-sender-keeps, release-to-sleep-keeps, release-to-look-keeps, release-to-idle-keeps, free-sender-keeps}
+use Rattle.invariant.proofs.Moves.{start-copy-keeps, to-release-keeps, copy-word-keeps, retry-keeps, to-idle-keeps, clear-poll-keeps}
 use Rattle.invariant.proofs.Endings.{abort-send-keeps, abort-receive-keeps, finish-call-keeps, finish-send-keeps}
 
 module _ (t : Table) (F : Formed (t .n) (at t)) (x : ℕ) (xn : x < t .n) where

@@ -11,8 +11,9 @@ use Rattle.model.specs.declared.Thread.{Thread}
 use Rattle.model.specs.declared.Table.{Table}
 use Rattle.model.specs.Answers.{held}
 use Rattle.model.specs.Shared.{receiveTimeOver, sendTimeOver, receiveCancelled, sendCancelled, nobody, hasReceive}
+use Rattle.model.specs.Lists.{update}
 use Rattle.model.specs.Threads.{Phase, idle, lock, check, copy, release, sleep, look, wake, unlock, unknown, phaseOf, at, lockFree, findSender, ready}
-use Rattle.model.specs.Step.{Action, stay, takeLock, abortSend, startCopy, toRelease, copyWord, finishCall, finishSend, freeTarget, retry, toIdle, abortReceive, takeSender, clearPoll, freeSender, otherIn, other, lookAt, decideIn, decide}
+use Rattle.model.specs.Step.{Action, stay, takeLock, abortSend, startCopy, toRelease, copyWord, finishCall, finishSend, freeTarget, retry, toIdle, abortReceive, takeSender, clearPoll, freeSender, otherIn, other, lookAt, decideIn, decide, ownAfter, otherAfter}
 use Rattle.model.proofs.Laws.{by}
 
 -- a free lock is owned by nobody
@@ -43,6 +44,10 @@ otherOf (abortReceive c) h = other h
 otherOf (takeSender s) h = s
 otherOf clearPoll h = h .waking
 otherOf freeSender h = h .waking
+
+-- the threads after an action of thread x
+abbrev pub afterAction : Action → (ℕ → Thread) → ℕ → ℕ → Thread
+afterAction a T x = update (update T (otherOf a (T x)) (otherAfter a x (T x) (T (otherOf a (T x))))) x (ownAfter a (T x))
 
 -- ---- the tests of thread x's step
 module _ (t : Table) (x : ℕ) where

@@ -13,12 +13,11 @@ use Rattle.model.specs.Threads.{check, look, phaseOf, departed, findSender, rea
 use Rattle.model.specs.Step.{Action, abortSend, abortReceive, ownAfter, otherAfter}
 use Rattle.model.specs.Atomic.{receiving, Machine, aborts, ending, play, CanAbort, cancelledSending, lateSending, cancelledReceiving, lateReceiving}
 use Rattle.laws.proofs.Search.{none-acceptable}
-use Rattle.laws.proofs.Decided.{otherOf}
+use Rattle.laws.proofs.Decided.{otherOf, afterAction}
 use Rattle.invariant.proofs.Flags.{cases, isOneOf, told}
 use Rattle.invariant.proofs.Facts.{target-other}
 use Rattle.invariant.proofs.Formed.{copiesTo}
 use Rattle.invariant.proofs.Neighbours.{few, number, sends-in-check, sends-queued}
-use Rattle.invariant.proofs.Moves.{afterAction}
 use Rattle.simulation.proofs.Abstraction.{seems, CopiedBy, copies-nowhere}
 use Rattle.simulation.proofs.Leads.{Simulates, Leads, same-store, own-leads}
 use Rattle.simulation.proofs.Conditions.{mark-alike, left-alike, sends-alike, receives-alike, ready-alike, queued-alike}

@@ -13,11 +13,11 @@ use Rattle.model.specs.Threads.{copy, phaseOf, departed, wordsAt}
 use Rattle.model.specs.Step.{finishCall, finishSend, received, ownAfter, otherAfter}
 use Rattle.model.specs.Atomic.{sending, Machine, rendezvous, receiverAfter, senderAfter, play, Can}
 use Rattle.laws.proofs.Store.{words-are-message}
+use Rattle.laws.proofs.Decided.{afterAction}
 use Rattle.invariant.proofs.Flags.{isOneOf}
 use Rattle.invariant.proofs.Facts.{sends-runs}
 use Rattle.invariant.proofs.Formed.{copiesTo}
 use Rattle.invariant.proofs.Neighbours.{few, sends-in-copy}
-use Rattle.invariant.proofs.Moves.{afterAction}
 use Rattle.invariant.proofs.Receivers.{receiver-other, copies-to-target, receiver-ready, message-short}
 use Rattle.simulation.proofs.Abstraction.{seems, copies-nowhere}
 use Rattle.simulation.proofs.Leads.{Simulates, Leads, same-store, both-lead}

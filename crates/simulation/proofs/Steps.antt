@@ -13,11 +13,10 @@ use Rattle.model.specs.Threads.{Phase, check, look, phaseOf, at}
 use Rattle.model.specs.Step.{Action, stay, takeLock, abortSend, startCopy, toRelease, copyWord, finishCall, finishSend, freeTarget, retry, toIdle, abortReceive, takeSender, clearPoll, freeSender, decide, ownAfter, otherAfter, act, storeAfter}
 use Rattle.model.specs.Atomic.{Machine, CanAbort}
 use Rattle.model.specs.Linearized.{eventOf}
-use Rattle.laws.proofs.Decided.{Fits, AbortsSend, AbortsReceive, GoesOn, sending, receiving, ended, decided, otherOf}
+use Rattle.laws.proofs.Decided.{Fits, AbortsSend, AbortsReceive, GoesOn, sending, receiving, ended, decided, otherOf, afterAction}
 use Rattle.invariant.proofs.Flags.{isOneOf}
 use Rattle.invariant.proofs.Formed.{copiesTo}
 use Rattle.invariant.proofs.Neighbours.{few}
-use Rattle.invariant.proofs.Moves.{afterAction}
 use Rattle.invariant.proofs.Steps.{act-changes}
 use Rattle.simulation.proofs.Abstraction.{seems, CopiedBy, copies-nowhere, copied-nothing}
 use Rattle.simulation.proofs.Leads.{Simulates, Leads, same-store, none-leads}
