@@ -73,18 +73,18 @@ cases = 0
 
 -- ---- what follows from fitting flags
 -- f holds of all flags that fit phase k
-abbrev pub Follows : ℕ → FlagTest → Type 0
-Follows k f = always (λ v r s. implies (flagsFit k v r s) (f v r s)) ≡ true
+abbrev pub Implied : ℕ → FlagTest → Type 0
+Implied k f = always (λ v r s. implies (flagsFit k v r s) (f v r s)) ≡ true
 
 module _ (h : Thread) (fits : FlagsFit h) where
   -- of a thread in phase k
-  pub told : (k : ℕ) → h .phase ≡ k → (f : FlagTest) → Follows k f → f (h .flags) (hasReceive (h .op .receive)) (h .op .send .present) ≡ true
+  pub told : (k : ℕ) → h .phase ≡ k → (f : FlagTest) → Implied k f → f (h .flags) (hasReceive (h .op .receive)) (h .op .send .present) ≡ true
   told k p f t = implies-read (flagsFit k (h .flags) (hasReceive (h .op .receive)) (h .op .send .present)) _
       (always-read (λ v r s. implies (flagsFit k v r s) (f v r s)) t (h .flags) (hasReceive (h .op .receive)) (h .op .send .present))
       (rw p at fits)
 
   -- where g holds of its flags too
-  pub told-if : (k : ℕ) → h .phase ≡ k → (g f : FlagTest) → Follows k (λ v r s. implies (g v r s) (f v r s))
+  pub told-if : (k : ℕ) → h .phase ≡ k → (g f : FlagTest) → Implied k (λ v r s. implies (g v r s) (f v r s))
       → g (h .flags) (hasReceive (h .op .receive)) (h .op .send .present) ≡ true → f (h .flags) (hasReceive (h .op .receive)) (h .op .send .present) ≡ true
   told-if k p g f t e = implies-read _ _ (told k p (λ v r s. implies (g v r s) (f v r s)) t) e
 

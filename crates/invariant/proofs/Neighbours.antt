@@ -16,7 +16,7 @@ use Rattle.model.proofs.Laws.{by, same?, and-left, and-right, few-enough}
 use Rattle.laws.proofs.Lists.{bit-small}
 use Rattle.laws.proofs.Phases.{phase-number, lock-held-in}
 use Rattle.laws.proofs.Queues.{senders-length}
-use Rattle.invariant.proofs.Flags.{cases, Follows, isOneOf, told, phase-small, FlagTest, told-if}
+use Rattle.invariant.proofs.Flags.{cases, Implied, isOneOf, told, phase-small, FlagTest, told-if}
 use Rattle.invariant.proofs.Facts.{Other, target-other, queue-small, target-below, woken-below}
 use Rattle.invariant.proofs.Globals.{not-own-owner}
 use Rattle.invariant.proofs.Formed.{Formed, copiesTo}
@@ -56,44 +56,40 @@ module _ {n : ℕ} {T : ℕ → Thread} (F : Formed n T) where
 
   module _ (x : ℕ) (xn : x < n) where
     -- of x, which is in phase p, a test follows from its flags
-    pub in-phase : (p : Phase) → phaseOf (T x .phase) ≡ p → (f : FlagTest) → Follows (phaseNumber p) f → f (T x .flags) (hasReceive (T x .op .receive)) (T x .op .send .present) ≡ true
+    pub in-phase : (p : Phase) → phaseOf (T x .phase) ≡ p → (f : FlagTest) → Implied (phaseNumber p) f → f (T x .flags) (hasReceive (T x .op .receive)) (T x .op .send .present) ≡ true
     in-phase p e f t = told (T x) (F .own x xn .flags) (phaseNumber p) (number x xn p e) f t
 
     -- and where g holds of them too
-    pub in-phase-if : (p : Phase) → phaseOf (T x .phase) ≡ p → (g f : FlagTest) → Follows (phaseNumber p) (λ v r s. implies (g v r s) (f v r s))
+    pub in-phase-if : (p : Phase) → phaseOf (T x .phase) ≡ p → (g f : FlagTest) → Implied (phaseNumber p) (λ v r s. implies (g v r s) (f v r s))
         → g (T x .flags) (hasReceive (T x .op .receive)) (T x .op .send .present) ≡ true → f (T x .flags) (hasReceive (T x .op .receive)) (T x .op .send .present) ≡ true
     in-phase-if p e g f t k = told-if (T x) (F .own x xn .flags) (phaseNumber p) (number x xn p e) g f t k
 
-  -- the target of a thread in check, copy or release, and the sender that is woken in wake or unlock
-  module _ (x : ℕ) (xn : x < n) where
-    sending : (p : Phase) → phaseOf (T x .phase) ≡ p → Follows (phaseNumber p) (λ v r s. v .send) → T x .flags .send ≡ true
-    sending p e t = in-phase x xn p e (λ v r s. v .send) t
-
-    -- lock
+    -- in lock it sends
     pub sends-in-lock : phaseOf (T x .phase) ≡ lock → T x .flags .send ≡ true
     unfolding cases
-    sends-in-lock e = sending lock e refl
+    sends-in-lock e = in-phase lock e (λ v r s. v .send) refl
 
-    -- check
+    -- in check
     pub sends-in-check : phaseOf (T x .phase) ≡ check → T x .flags .send ≡ true
     unfolding cases
-    sends-in-check e = sending check e refl
+    sends-in-check e = in-phase check e (λ v r s. v .send) refl
 
-    -- copy
+    -- and in copy
     pub sends-in-copy : phaseOf (T x .phase) ≡ copy → T x .flags .send ≡ true
     unfolding cases
-    sends-in-copy e = sending copy e refl
+    sends-in-copy e = in-phase copy e (λ v r s. v .send) refl
 
-    -- release
+    -- in release it holds the lock of its target
     pub target-in-release : phaseOf (T x .phase) ≡ release → Other n x (T x .op .send .target)
     unfolding isOneOf
     target-in-release e = holds-other x xn release e (target-below (F .own x xn) (rw (number x xn release e) refl))
 
-    -- wake and unlock
+    -- in wake that of the sender being woken
     pub woken-in-wake : phaseOf (T x .phase) ≡ wake → Other n x (T x .waking)
     unfolding isOneOf
     woken-in-wake e = holds-other x xn wake e (woken-below (F .own x xn) (rw (number x xn wake e) refl))
 
+    -- and in unlock
     pub woken-in-unlock : phaseOf (T x .phase) ≡ unlock → Other n x (T x .waking)
     unfolding isOneOf
     woken-in-unlock e = holds-other x xn unlock e (woken-below (F .own x xn) (rw (number x xn unlock e) refl))
