@@ -11,10 +11,10 @@ use Rattle.model.specs.Promise
 use Rattle.model.specs.Atomic
 use Rattle.model.specs.Linearization
 use Rattle.model.specs.Linearized
-use Rattle.model.specs.Replay
 use Rattle.model.specs.Schedule
 use Rattle.model.specs.Bondtrace
 use Rattle.model.specs.Examples
+use Rattle.model.proofs.Replay
 
 unfoldable pub lists : ℕ
 unfolding Lists.implies Lists.allOf Lists.allBelow Lists.occurs Lists.without Lists.placeWhere Lists.upTo Lists.update Lists.concat

@@ -40,9 +40,9 @@ unfolding newThread
 new-numbers = (refl, refl, refl, refl)
 
 -- 3. after -2: the thread ends as it stood, and no other is touched
-pub beyond : (x : ℕ) (o : Operation) (t : Table) → targetBeyond (t .n) o ≡ true → beginTable x o t ≡ edit x (ended (codeOnly noReceiver)) t
+pub target-beyond : (x : ℕ) (o : Operation) (t : Table) → targetBeyond (t .n) o ≡ true → beginTable x o t ≡ edit x (ended (codeOnly noReceiver)) t
 unfolding beginTable
-beyond x o t e = rw e refl
+target-beyond x o t e = rw e refl
 
 pub after-beyond : (h : Thread) → rest (ended (codeOnly noReceiver) h) ≡ rest h
 after-beyond h = refl

@@ -4,6 +4,7 @@ pub mod Answers
 pub mod Traces
 pub mod Chains
 pub mod Tested
+pub mod Replay
 pub mod Computing
 pub mod Examples
 pub mod Replays

@@ -1,43 +1,59 @@
--- Concrete traces, replayed by computation: after every call both machines show the same, every event is allowed where it stands, and the
--- last table is well-formed. That this holds of every trace is the linearization theorem; each of these traces tells a wrong machine from ours.
+-- Concrete traces, replayed by computation: after every call both machines show the same, every event is allowed where it stands and answered
+-- alike, and the last table is well-formed. That this holds of every trace is the linearization theorem; each of these traces tells a wrong machine from ours.
 use mathlib.Core.Path.{_≡_, refl}
-use mathlib.Core.Bool.{true}
+use mathlib.Core.Bool.{true, false}
 use mathlib.Core.List.{List, [], _∷_, _++_}
 use lib.ListN.{replicate}
 use Rattle.model.specs.declared.Receive.the-variants.{Absent}
+use Rattle.model.specs.declared.Operation.{Operation}
 use Rattle.model.specs.Threads.{newTable}
 use Rattle.model.specs.Calls.{Call, begin, cancel, tick, State}
 use Rattle.model.specs.Promise.{state}
 use Rattle.model.specs.Atomic.{firstMachine}
-use Rattle.model.specs.Replay.{agree}
-use Rattle.model.specs.Examples.{sendTo, receiveOnly, openFor, closedFor, steps}
+use Rattle.model.specs.Examples.{sendTo, receiveOnly, openFor, closedFor, steps, run}
+use Rattle.model.proofs.Replay.{agree}
 use Rattle.model.proofs.Computing.{computing}
 
 -- a trace, by what it shows
 pub data Name : Type 0 where
-  ready-at-time-0 marked-receiver receiver-still-sending new-time-for-the-receive mark-kept-past-the-send receive-dropped-with-the-send received-in-wake words-of-two-messages : Name
+  ready-at-time-0 sender-waits-at-time-0 time-runs-out marked-receiver receiver-still-sending : Name
+  new-time-for-the-receive no-time-for-the-receive mark-kept-past-the-send receive-dropped-with-the-send received-in-wake : Name
+  words-of-two-messages cancels-answered begins-refused : Name
 
 -- its calls, on a new table of three threads
 unfoldable pub calls : Name → List Call
 -- a send with no time left finds its target ready
 calls ready-at-time-0 = begin 1 (receiveOnly (openFor 15)) ∷ begin 0 (sendTo 1 (250 ∷ []) 0 Absent) ∷ steps 5 0
+-- a receive with no time left finds a sender
+calls sender-waits-at-time-0 = begin 0 (sendTo 1 (250 ∷ []) 15 Absent) ∷ begin 1 (receiveOnly (openFor 0)) ∷ steps 1 1
+-- a receive of one tick is aborted after it
+calls time-runs-out = begin 1 (receiveOnly (openFor 1)) ∷ steps 1 1 ++ tick ∷ steps 1 1
 -- a receiver is cancelled before its sender looks at it
 calls marked-receiver = begin 1 (receiveOnly (openFor 15)) ∷ begin 0 (sendTo 1 (250 ∷ []) 15 Absent) ∷ cancel 1 ∷ steps 6 0 ++ steps 2 1
 -- thread 1 calls 2, which does not receive; meanwhile 0 sends to 1
 calls receiver-still-sending = begin 1 (sendTo 2 (1 ∷ []) 15 (openFor 15)) ∷ steps 4 1 ++ begin 0 (sendTo 1 (250 ∷ []) 15 Absent) ∷ steps 6 0
 -- a call whose send part has no time left waits for ever for its answer
 calls new-time-for-the-receive = begin 1 (receiveOnly (openFor 15)) ∷ begin 0 (sendTo 1 (250 ∷ []) 0 (closedFor 2 15)) ∷ steps 6 0
+-- and one whose receive part has none is aborted after its send
+calls no-time-for-the-receive = begin 1 (receiveOnly (openFor 15)) ∷ begin 0 (sendTo 1 (250 ∷ []) 15 (closedFor 2 0)) ∷ steps 6 0
 -- a call is cancelled while it copies; then 2 sends to it
 calls mark-kept-past-the-send =
     begin 1 (receiveOnly (openFor 15)) ∷ begin 0 (sendTo 1 (250 ∷ []) 15 (openFor 15)) ∷ steps 2 0 ++ cancel 0 ∷ steps 3 0 ++ begin 2 (sendTo 0 (9 ∷ []) 15 Absent) ∷ steps 5 2
 -- the send part of a call is aborted, and its receive part with it
-calls receive-dropped-with-the-send = begin 0 (sendTo 1 (250 ∷ []) 0 (openFor 15)) ∷ steps 3 0 ++ begin 2 (sendTo 0 (9 ∷ []) 15 Absent) ∷ steps 4 2
+calls receive-dropped-with-the-send = begin 0 (sendTo 1 (250 ∷ []) 0 (openFor 15)) ∷ steps 3 0
 -- 1 is waking 0 when 2 delivers to it
 calls received-in-wake =
     begin 0 (sendTo 1 (250 ∷ []) 15 Absent) ∷ steps 3 0 ++ begin 1 (receiveOnly (openFor 15)) ∷ steps 1 1 ++ begin 2 (sendTo 1 (9 ∷ []) 15 Absent) ∷ steps 5 2 ++ steps 3 1 ++ steps 4 0
 -- 1 and 2 receive; 0 sends two words to 2, then one to 1
 calls words-of-two-messages =
     begin 1 (receiveOnly (openFor 15)) ∷ begin 2 (receiveOnly (openFor 15)) ∷ begin 0 (sendTo 2 (5 ∷ 6 ∷ []) 15 Absent) ∷ steps 6 0 ++ begin 0 (sendTo 1 (7 ∷ []) 15 Absent) ∷ tick ∷ steps 5 0
+-- nothing to cancel, then marked, also the second time
+calls cancels-answered = cancel 0 ∷ begin 0 (receiveOnly (openFor 15)) ∷ cancel 0 ∷ cancel 0 ∷ []
+-- begins of no part, of thread 0 with itself, of a partner, a count and times out of range, of thread 3, and a second one
+calls begins-refused =
+    begin 0 (receiveOnly Absent) ∷ begin 0 (sendTo 0 [] 15 Absent) ∷ begin 0 (receiveOnly (closedFor 0 15)) ∷ begin 0 (receiveOnly (closedFor 3 15))
+    ∷ begin 0 (sendTo 1 (replicate 9 1) 15 Absent) ∷ begin 0 (sendTo 1 [] 16 Absent) ∷ begin 0 (receiveOnly (openFor 16)) ∷ begin 3 (receiveOnly (openFor 15))
+    ∷ begin 0 (receiveOnly (openFor 15)) ∷ begin 0 (receiveOnly (openFor 15)) ∷ []
 
 -- the new table, and a store of sevens
 abbrev pub first : State
@@ -47,10 +63,25 @@ first = state (newTable 3) (replicate 24 7)
 pub replays : (name : Name) → agree 3 first firstMachine (calls name) ≡ true
 unfolding computing calls
 replays ready-at-time-0 = refl
+replays sender-waits-at-time-0 = refl
+replays time-runs-out = refl
 replays marked-receiver = refl
 replays receiver-still-sending = refl
 replays new-time-for-the-receive = refl
+replays no-time-for-the-receive = refl
 replays mark-kept-past-the-send = refl
 replays receive-dropped-with-the-send = refl
 replays received-in-wake = refl
 replays words-of-two-messages = refl
+replays cancels-answered = refl
+replays begins-refused = refl
+
+-- a message of one word, with other words in its places past the count
+abbrev oneOfEight : Operation
+oneOfEight = record { send = record { present = true; target = 1; count = 1; time = 15; words = 5 ∷ 6 ∷ 6 ∷ 6 ∷ 6 ∷ 6 ∷ 6 ∷ 6 ∷ [] }; receive = Absent }
+
+-- only the message is delivered: the receiver's other words stay zero, and those of thread 2 as they were
+pub only-the-message : run first (begin 1 (receiveOnly (openFor 15)) ∷ begin 0 oneOfEight ∷ steps 5 0) .store ≡
+    0 ∷ 0 ∷ 0 ∷ 0 ∷ 0 ∷ 0 ∷ 0 ∷ 0 ∷ 5 ∷ 0 ∷ 0 ∷ 0 ∷ 0 ∷ 0 ∷ 0 ∷ 0 ∷ 7 ∷ 7 ∷ 7 ∷ 7 ∷ 7 ∷ 7 ∷ 7 ∷ 7 ∷ []
+unfolding computing
+only-the-message = refl

@@ -1,9 +1,10 @@
 -- Every list of calls has its trace, so the statement about traces speaks of every list of calls.
 use mathlib.Core.Path.{_≡_, refl, ap}
-use mathlib.Core.List.{List, [], _∷_, map}
+use mathlib.Core.List.{List, [], _∷_}
 use Rattle.model.specs.Calls.{Call, State}
 use Rattle.model.specs.Promise.{answer, next}
 use Rattle.model.specs.Linearization.{Observed, Trace}
+use Rattle.model.specs.Linearized.{callsOf}
 use Rattle.model.proofs.Answers.{answering, said-answering}
 
 -- the calls, each with what it answers and leaves
@@ -18,7 +19,7 @@ trace-of-calls s [] = tt
 trace-of-calls s (c ∷ cs) = (record { answers = said-answering (answer c s); leaves = refl }, trace-of-calls (next c s) cs)
 
 -- of these calls
-pub calls-of-trace : (s : State) (cs : List Call) → map (λ o. o .call) (traceOf s cs) ≡ cs
+pub calls-of-trace : (s : State) (cs : List Call) → callsOf (traceOf s cs) ≡ cs
 unfolding traceOf
 calls-of-trace s [] = refl
 calls-of-trace s (c ∷ cs) = ap {B = List Call} (λ l. c ∷ l) (calls-of-trace (next c s) cs)

@@ -10,7 +10,6 @@ pub mod Promise
 pub mod Atomic
 pub mod Linearization
 pub mod Linearized
-pub mod Replay
 pub mod Schedule
 pub mod Bondtrace
 pub mod Examples

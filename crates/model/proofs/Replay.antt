@@ -1,17 +1,19 @@
--- A trace replayed: its linearization is played on the atomic machine, and both machines are compared after every call. All of it computes.
+-- Calls replayed: their linearization is played on the atomic machine, and both machines are compared after every call. All of it computes.
+-- What demand 3 says besides, of endings and of pairs, follows from events that are allowed and is not compared.
 use mathlib.Core.Bool.{Bool, true, false, not, _&&_, _||_}
 use mathlib.Core.Option.{none, some}
 use mathlib.Core.List.{List, [], _∷_}
 use Prim.Native.Nat.{ℕ}
 use lib.Dec.{eqb, ltb}
 use lib.IntN.{ℤ}
+use Rattle.model.specs.Answers.{Reply, accepted, marked, nothingToCancel, moved, idle, held, wants, asleep, Said, refused, replied}
 use Rattle.model.specs.Lists.{implies, allOf, allBelow}
 use Rattle.model.specs.Shared.{receiveTimeOver, sendTimeOver, receiveCancelled, sendCancelled, sameCode, View}
 use Rattle.model.specs.WellFormed.{wellFormed}
 use Rattle.model.specs.Calls.{Call, State}
-use Rattle.model.specs.Promise.{next, view}
-use Rattle.model.specs.Atomic.{Run, nothing, sending, receiving, Machine, Event, begins, cancels, ticks, rendezvous, aborts, runs, shows, acceptsIn, readyFor}
-use Rattle.model.specs.Linearization.{Entry, playEntry}
+use Rattle.model.specs.Promise.{answer, next, view}
+use Rattle.model.specs.Atomic.{Run, nothing, sending, receiving, Machine, Event, begins, cancels, ticks, rendezvous, aborts, runs, reply, shows, acceptsIn, readyFor}
+use Rattle.model.specs.Linearization.{Entry, playEntry, alike}
 use Rattle.model.specs.Linearized.{entry}
 
 -- ---- the conditions of an event as a test
@@ -62,11 +64,37 @@ sameView v w = allOf (
     ∷ []
     )
 
--- from s and p on, each event is allowed where it stands, after each call both machines show the same, and the last table is well-formed
+-- a reply by a number, so that two can be compared
+abbrev pub replyNumber : Reply → ℕ
+replyNumber accepted = 0
+replyNumber marked = 1
+replyNumber nothingToCancel = 2
+replyNumber moved = 3
+replyNumber idle = 4
+replyNumber held = 5
+replyNumber wants = 6
+replyNumber asleep = 7
+
+-- what was said is this reply
+abbrev pub saysReply : Said → Reply → Bool
+saysReply (refused g) r = false
+saysReply (replied a) r = eqb (replyNumber a) (replyNumber r)
+
+-- a call that is its own event is answered as the atomic machine answers it
+abbrev pub answerTest : Entry → Said → Machine → Bool
+answerTest none a p = true
+answerTest (some (begins x o)) a p = saysReply a (alike (reply (begins x o) p))
+answerTest (some (cancels x)) a p = saysReply a (alike (reply (cancels x) p))
+answerTest (some ticks) a p = saysReply a (alike (reply ticks p))
+answerTest (some (rendezvous s r)) a p = true
+answerTest (some (aborts x c)) a p = true
+
+-- from s and p on, each event is allowed where it stands and answered alike, after each call both machines show the same, and the last
+-- table is well-formed
 unfoldable pub agree : ℕ → State → Machine → List Call → Bool
 agree n s p [] = wellFormed (s .table)
 agree n s p (c ∷ cs) =
     let e = entry c s in
     let after = next c s in
     let later = playEntry n e p in
-    allOf (allowedTest n e p ∷ allBelow n (λ x. sameView (view after x) (shows later x)) ∷ agree n after later cs ∷ [])
+    allOf (allowedTest n e p ∷ answerTest e (answer c s) p ∷ allBelow n (λ x. sameView (view after x) (shows later x)) ∷ agree n after later cs ∷ [])
