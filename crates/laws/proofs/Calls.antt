@@ -1,19 +1,23 @@
 -- What a call answers and leaves in each of its cases: refused and not, the three of begin and the two of cancel.
-use mathlib.Core.Path.{_≡_, refl, _∙_}
+use mathlib.Core.Path.{_≡_, refl, sym, _∙_, subst}
 use mathlib.Core.Bool.{Bool, true, false, cond, _&&_}
 use mathlib.Core.Option.{none}
-use Prim.Native.Nat.{ℕ, zero, suc}
+use Prim.Native.Nat.{ℕ, zero, suc, _<_}
+use native.Mathlib.Omega.{arith}
 use lib.Dec.{leb}
+use borrow.Author.Tests.{leb-false}
 use Rattle.model.specs.declared.Operation.{Operation}
 use Rattle.model.specs.declared.Table.{Table}
-use Rattle.model.specs.Answers.{Reply, nothingToCancel, refused, replied}
+use Rattle.model.specs.declared.Answer.{Answer}
+use Rattle.model.specs.Answers.{Reply, nothingToCancel, refused, replied, said}
 use Rattle.model.specs.Shared.{noReceiver, codeOnly, targetBeyond}
 use Rattle.model.specs.Threads.{lock, look, at, edit, marked, ended, joined}
 use Rattle.model.specs.Calls.{begun, beginTable, cancelTable, cancelReply, Call, State, acceptedReply, acceptedState}
 use Rattle.model.specs.Refusals.{unless, refusal}
-use Rattle.model.specs.Promise.{answer, next}
+use Rattle.model.specs.Promise.{answer, next, Promise}
 use Rattle.model.specs.Linearized.{acceptedEntry, entry}
-use Rattle.model.proofs.Free.{beyond}
+use Rattle.model.proofs.Laws.{by}
+use Rattle.model.proofs.Free.{target-beyond}
 
 -- ---- every call
 module _ {ℓ} {A : Type ℓ} where
@@ -75,12 +79,26 @@ module _ (c : Call) (s : State) where
   unfolding entry
   refused-entry g e = unless-refused (refusal c s) _ _ g e
 
--- ---- begin
-module _ (x : ℕ) (o : Operation) (t : Table) where
-  -- a target outside the table ends the thread with -2
-  pub target-beyond : targetBeyond (t .n) o ≡ true → beginTable x o t ≡ edit x (ended (codeOnly noReceiver)) t
-  target-beyond e = beyond x o t e
+  -- what holds of the accepted state, and of the state as it was, holds of what the call leaves
+  pub next-cases {ℓ} : (P : State → Type ℓ) → (refusal c s ≡ 0 → P (acceptedState c s)) → P s → P (next c s)
+  next-cases P f same = accepted? (λ e. subst P (sym (accepted-next e)) (f e)) (λ g e. subst P (sym (refused-next g e)) same)
 
+  -- a call that answers a refusal has changed nothing
+  pub refused-unchanged : (a : Answer) (after : State) → Promise c s a after → (g : ℕ) → said a ≡ refused g → after ≡ s
+  refused-unchanged a after kept g e = accepted?
+      (λ i. let z : replied (acceptedReply c s) ≡ refused g = sym (accepted-answer i) ∙ sym (kept .answers) ∙ e in absurd (not-refused z))
+      (λ k i. kept .leaves ∙ refused-next k i)
+    where
+      not-refused : {r : Reply} → replied r ≡ refused g → ⊥
+      not-refused z = let o : _≡_ {A = ℕ} 0 1 = cc in absurd (omega arith)
+
+-- ---- begin
+-- the target of a send part is in the table unless it is beyond
+pub target-near : (n : ℕ) (o : Operation) → o .send .present ≡ true → targetBeyond n o ≡ false → o .send .target < n
+unfolding targetBeyond
+target-near n o sends e = leb-false n (o .send .target) (rw sends at e)
+
+module _ (x : ℕ) (o : Operation) (t : Table) where
   -- with a send part the thread joins its target's queue
   pub begins-to-send : targetBeyond (t .n) o ≡ false → o .send .present ≡ true → beginTable x o t ≡ edit x (begun o lock) (edit (o .send .target) (joined x) t)
   unfolding beginTable
@@ -90,6 +108,19 @@ module _ (x : ℕ) (o : Operation) (t : Table) where
   pub begins-to-receive : o .send .present ≡ false → beginTable x o t ≡ edit x (begun o look) t
   unfolding beginTable targetBeyond
   begins-to-receive alone = cond-false (o .send .present && leb (t .n) (o .send .target)) _ _ (rw alone refl) ∙ cond-false (o .send .present) _ _ alone
+
+  -- what holds in each of the three cases holds of a begin
+  pub begin-cases {ℓ} : (P : Table → Type ℓ)
+      → (targetBeyond (t .n) o ≡ true → P (edit x (ended (codeOnly noReceiver)) t))
+      → (o .send .present ≡ true → o .send .target < t .n → P (edit x (begun o lock) (edit (o .send .target) (joined x) t)))
+      → (o .send .present ≡ false → P (edit x (begun o look) t))
+      → P (beginTable x o t)
+  begin-cases P far near receives =
+      by (targetBeyond (t .n) o)
+      (λ e. subst P (sym (target-beyond x o t e)) (far e))
+      (λ e. by (o .send .present)
+      (λ sends. subst P (sym (begins-to-send e sends)) (near sends (target-near (t .n) o sends e)))
+      (λ alone. subst P (sym (begins-to-receive alone)) (receives alone)))
 
 -- ---- cancel
 module _ (x : ℕ) (t : Table) where
@@ -112,3 +143,7 @@ module _ (x : ℕ) (t : Table) where
   pub cancel-nothing-reply : at t x .flags .ipc ≡ false → cancelReply x t ≡ nothingToCancel
   unfolding cancelReply
   cancel-nothing-reply over = cond-false (at t x .flags .ipc) _ _ over
+
+  -- what holds in both cases holds of a cancel
+  pub cancel-cases {ℓ} : (P : Table → Type ℓ) → (at t x .flags .ipc ≡ true → P (edit x marked t)) → (at t x .flags .ipc ≡ false → P t) → P (cancelTable x t)
+  cancel-cases P runs over = by (at t x .flags .ipc) (λ e. subst P (sym (cancel-marks e)) (runs e)) (λ e. subst P (sym (cancel-nothing e)) (over e))

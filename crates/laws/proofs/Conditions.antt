@@ -1,15 +1,17 @@
--- The conditions of an atomic event hold as a test where they hold, and threads that show the same pass the test that they do.
-use mathlib.Core.Path.{_≡_, refl, sym, subst}
+-- What a replay compares holds as a test where it holds: the conditions of an event, answers and views.
+use mathlib.Core.Path.{_≡_, refl, sym, ap, subst}
 use mathlib.Core.Bool.{true≢false, true, false, not}
 use mathlib.Core.Option.{none, some}
 use mathlib.Core.List.{List, [], _∷_}
 use Prim.Native.Nat.{ℕ}
 use lib.IntN.{ℤ}
 use borrow.Author.Tests.{eqb-true, eq-eqb, lt-ltb}
+use Rattle.model.specs.Answers.{Said, refused, replied}
+use Rattle.model.specs.Calls.{Call, begin, step, cancel, tick}
 use Rattle.model.specs.Shared.{View}
-use Rattle.model.specs.Atomic.{Run, nothing, sending, receiving, Machine, Event, begins, cancels, ticks, rendezvous, aborts, runs, QueuedAt, acceptsIn, NoneAcceptable, CanAbort, Can}
-use Rattle.model.specs.Linearization.{Entry, Allowed}
-use Rattle.model.specs.Replay.{sendsNowTo, noneAcceptable, abortTest, canTest, allowedTest, sameWords, sameView}
+use Rattle.model.specs.Atomic.{Run, nothing, sending, receiving, Machine, Event, begins, cancels, ticks, rendezvous, aborts, runs, QueuedAt, acceptsIn, NoneAcceptable, CanAbort, Can, reply}
+use Rattle.model.specs.Linearization.{Entry, Allowed, alike, AtCall}
+use Rattle.model.proofs.Replay.{sendsNowTo, noneAcceptable, abortTest, canTest, allowedTest, sameWords, sameView, replyNumber, answerTest}
 use Rattle.laws.proofs.Codes.{code-itself}
 use Rattle.model.proofs.Laws.{implies-made, _and_, all-of-made, all-below-made}
 
@@ -51,6 +53,20 @@ module _ (n : ℕ) (p : Machine) where
   pub allowed-tested : (e : Entry) → Allowed n e p → allowedTest n e p ≡ true
   allowed-tested none h = refl
   allowed-tested (some e) h = can-tested e h
+
+-- ---- answers
+-- an entry that may stand in a call's place is answered alike
+pub placed-tested : (c : Call) (a : Said) (e : Entry) (p : Machine) → AtCall c a e p → answerTest e a p ≡ true
+placed-tested c (refused g) e p h = rw h refl
+placed-tested (begin x o) (replied a) e p h = rw (h .event) (eq-eqb _ _ (ap replyNumber (h .answer)))
+placed-tested (step x) (replied a) none p h = refl
+placed-tested (step x) (replied a) (some (begins y o)) p h = absurd h
+placed-tested (step x) (replied a) (some (cancels y)) p h = absurd h
+placed-tested (step x) (replied a) (some ticks) p h = absurd h
+placed-tested (step x) (replied a) (some (rendezvous s r)) p h = refl
+placed-tested (step x) (replied a) (some (aborts y c)) p h = refl
+placed-tested (cancel x) (replied a) e p h = rw (h .event) (eq-eqb _ _ (ap replyNumber (h .answer)))
+placed-tested tick (replied a) e p h = rw (h .event) (eq-eqb _ _ (ap replyNumber (h .answer)))
 
 -- ---- views
 -- words are the same as themselves

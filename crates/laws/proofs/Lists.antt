@@ -29,16 +29,6 @@ module _ {ℓ} {A : Type ℓ} where
   update-own f x = fun-ext (λ y. same? y x (λ e. rw (e, update-same f x (f x)) refl) (λ d. update-other f x (f x) y d))
 
 -- ---- tests
--- a test or a true one
-pub or-true : (b : Bool) → (b || true) ≡ true
-or-true true = refl
-or-true false = refl
-
--- a test or a false one
-pub or-false : (b : Bool) → (b || false) ≡ true → b ≡ true
-or-false true e = e
-or-false false e = e
-
 -- where neither of two tests holds, the first does not
 pub or-left : (a b : Bool) → (a || b) ≡ false → a ≡ false
 or-left true b e = e

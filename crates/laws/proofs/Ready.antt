@@ -7,6 +7,7 @@ use Rattle.model.specs.declared.Thread.{Thread}
 use Rattle.model.specs.Lists.{allOf}
 use Rattle.model.specs.Shared.{accepts}
 use Rattle.model.specs.Threads.{ready}
+use Rattle.model.specs.Atomic.{Machine, acceptsIn, isReceiving, readyFor}
 use Rattle.model.proofs.Laws.{_and_, all-of-read, all-of-made}
 
 -- thread h is ready for s
@@ -38,3 +39,16 @@ not-ready h e s = none (h .flags .ipc) (h .flags .receiving) (not (h .flags .sen
     none true true c d e = rw e refl
     none true false c d e = refl
     none false b c d e = refl
+
+-- ---- the atomic machine
+-- thread r of the atomic machine is ready for s
+pub record IsReadyFor (p : Machine) (r s : ℕ) : Type 0 where
+  pub receiving : isReceiving (p r .run) ≡ true
+  pub unmarked : p r .mark ≡ false
+  pub accepting : acceptsIn (p r .run) s ≡ true
+
+-- one that passes the test is ready
+pub ready-for-read : (p : Machine) (r s : ℕ) → readyFor p r s ≡ true → IsReadyFor p r s
+unfolding readyFor
+ready-for-read p r s e = let (receiving, (unmarked, (accepting, end))) = all-of-read _ e in
+    record { receiving = receiving; unmarked = not-true (p r .mark) unmarked; accepting = accepting }

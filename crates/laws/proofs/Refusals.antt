@@ -1,25 +1,24 @@
 -- What a call that is not refused has been tested for.
 use mathlib.Core.Path.{_≡_, refl}
 use mathlib.Core.Logic.{_≢_}
-use mathlib.Core.Bool.{Bool, true, false, not, cond, _&&_, _||_}
+use mathlib.Core.Bool.{Bool, true, false, not, _&&_, _||_}
 use mathlib.Core.List.{List, [], _∷_}
 use Prim.Native.Nat.{ℕ, _*_, _≤_, _<_}
 use native.Mathlib.Omega.{arith}
 use lib.ListN.{length}
 use lib.Dec.{eqb, leb, ltb}
-use borrow.Author.Tests.{ltb-true, ltb-false, leb-false, le-leb, lt-ltb, eqb-true, eqb-false, ne-eqb, not-false}
+use borrow.Author.Tests.{ltb-true, ltb-false, leb-false, le-leb, lt-ltb, eqb-true, eqb-false, not-false}
 use Rattle.model.specs.declared.Receive.{Receive}
 use Rattle.model.specs.declared.Receive.the-variants.{Absent, Open, Closed}
 use Rattle.model.specs.declared.Operation.{Operation}
-use Rattle.model.specs.declared.Thread.{Thread}
 use Rattle.model.specs.declared.Table.{Table}
-use Rattle.model.specs.Lists.{implies}
-use Rattle.model.specs.Shared.{wordLimit, isTimeCode, hasReceive, receiveTime, closedOn, firstTime, targetBeyond}
-use Rattle.model.specs.Threads.{idle, release, at, lockFree}
-use Rattle.model.specs.WellFormed.{sizeInRange, inPhase, sendInRange, receiveInRange, notWithItself, wellFormed}
+use Rattle.model.specs.Shared.{wordLimit, isTimeCode, hasReceive, receiveTime, closedOn, targetBeyond}
+use Rattle.model.specs.Threads.{idle, phaseOf, at, lockFree}
+use Rattle.model.specs.WellFormed.{sizeInRange, inPhase, sendInRange, receiveInRange, wellFormed}
 use Rattle.model.specs.Calls.{Call, begin, step, cancel, tick, State}
 use Rattle.model.specs.Refusals.{Row, firstRefusal, badSize, notWellFormed, noThread, badLength, lockOwned, notIdle, neitherPart, withItself, closedBeyond, noPartner, tooManyWords, badTime, threadAndStoreRows, rowsOf, refusal, outcomeRefusal}
 use Rattle.model.proofs.Laws.{by, and-left, and-right, implies-made, _and_, all-of-made}
+use Rattle.laws.proofs.Phases.{in-idle}
 use Rattle.laws.proofs.Lists.{or-left, or-right}
 
 -- ---- a list of rows
@@ -76,12 +75,10 @@ pub record AcceptedBegin (s : State) (x : ℕ) (o : Operation) : Type 0 where
   pub below : x < s .table .n
   pub store : length (s .store) ≡ 8 * s .table .n
   pub free : lockFree (at (s .table) x) ≡ true
-  pub inIdle : inPhase (idle ∷ []) (at (s .table) x) ≡ true
+  pub inIdle : phaseOf (at (s .table) x .phase) ≡ idle
   pub part : (o .send .present || hasReceive (o .receive)) ≡ true
   pub otherTarget : o .send .present ≡ true → o .send .target ≢ x
   pub otherPartner : closedOn (o .receive) x ≡ false
-  pub count : o .send .present ≡ true → o .send .count ≤ wordLimit
-  pub time : isTimeCode (firstTime o) ≡ true
   pub sends : targetBeyond (s .table .n) o ≡ false → sendInRange (s .table .n) (o .send) ≡ true
   pub receives : receiveInRange (s .table .n) (o .receive) ≡ true
 
@@ -116,21 +113,16 @@ accepted-cancel x s e = let (size, (formed, (below, (free, end)))) = accepted-ro
     record { below = leb-false (s .table .n) x below; free = not-false (lockFree (at (s .table) x)) free }
 
 -- where two tests do not hold together, the second fails where the first holds
-and-false : (a b : Bool) → (a && b) ≡ false → a ≡ true → b ≡ false
-and-false true b e h = e
-and-false false b e h = cc
-
--- what f holds at where b does, and at another number, it holds at the one that b chooses
-either : (f : ℕ → Bool) (b : Bool) (k m : ℕ) → (b ≡ true → f k ≡ true) → f m ≡ true → f (cond b k m) ≡ true
-either f true k m p q = p refl
-either f false k m p q = q
+second-fails : (a b : Bool) → (a && b) ≡ false → a ≡ true → b ≡ false
+second-fails true b e h = e
+second-fails false b e h = cc
 
 -- a send part whose target is in the table has its numbers in range
 send-in-range : (n : ℕ) (o : Operation) → (o .send .present ≡ true → o .send .count ≤ wordLimit) → (o .send .present ≡ true → isTimeCode (o .send .time) ≡ true)
     → targetBeyond n o ≡ false → sendInRange n (o .send) ≡ true
 unfolding sendInRange targetBeyond
 send-in-range n o count time near = implies-made (o .send .present) _ (λ i. all-of-made _ (
-    lt-ltb (o .send .target) n (leb-false n (o .send .target) (and-false (o .send .present) (leb n (o .send .target)) near i))
+    lt-ltb (o .send .target) n (leb-false n (o .send .target) (second-fails (o .send .present) (leb n (o .send .target)) near i))
     and le-leb (o .send .count) wordLimit (count i) and time i and tt))
 
 -- the time code of a receive part is lawful, also of an absent one
@@ -155,29 +147,18 @@ accepted-begin x o s e =
     let toItself = o .send .present && eqb (o .send .target) x in
     let badSend = o .send .present && not (isTimeCode (o .send .time)) in
     let badWait = hasReceive (o .receive) && not (isTimeCode (receiveTime (o .receive))) in
-    let count : o .send .present ≡ true → o .send .count ≤ wordLimit = λ i. ltb-false wordLimit (o .send .count) (and-false (o .send .present) (ltb wordLimit (o .send .count)) words i) in
+    let count : o .send .present ≡ true → o .send .count ≤ wordLimit = λ i. ltb-false wordLimit (o .send .count) (second-fails (o .send .present) (ltb wordLimit (o .send .count)) words i) in
     let sendTime : o .send .present ≡ true → isTimeCode (o .send .time) ≡ true
-    = λ i. not-false (isTimeCode (o .send .time)) (and-false (o .send .present) (not (isTimeCode (o .send .time))) (or-left badSend badWait time) i) in
+    = λ i. not-false (isTimeCode (o .send .time)) (second-fails (o .send .present) (not (isTimeCode (o .send .time))) (or-left badSend badWait time) i) in
     let waitTime = wait-time (o .receive) (or-right badSend badWait time) in
     record {
       below = leb-false (s .table .n) x below;
       store = eqb-true (length (s .store)) (8 * s .table .n) (not-false (eqb (length (s .store)) (8 * s .table .n)) store);
       free = not-false (lockFree (at (s .table) x)) free;
-      inIdle = not-false (inPhase (idle ∷ []) (at (s .table) x)) inIdle;
+      inIdle = in-idle (at (s .table) x) (not-false (inPhase (idle ∷ []) (at (s .table) x)) inIdle);
       part = not-false (o .send .present || hasReceive (o .receive)) part;
-      otherTarget = λ i. eqb-false (o .send .target) x (and-false (o .send .present) (eqb (o .send .target) x) (or-left toItself (closedOn (o .receive) x) itself) i);
+      otherTarget = λ i. eqb-false (o .send .target) x (second-fails (o .send .present) (eqb (o .send .target) x) (or-left toItself (closedOn (o .receive) x) itself) i);
       otherPartner = or-right toItself (closedOn (o .receive) x) itself;
-      count = count;
-      time = either isTimeCode (o .send .present) _ _ sendTime waitTime;
       sends = send-in-range (s .table .n) o count sendTime;
       receives = receive-in-range (s .table .n) (o .receive) waitTime partner;
     }
-
--- a thread that is not in release, and whose operation has another thread for target and partner, has no part with itself
-pub with-others : (x : ℕ) (h : Thread) → (h .op .send .present ≡ true → h .op .send .target ≢ x) → closedOn (h .op .receive) x ≡ false → inPhase (release ∷ []) h ≡ false → notWithItself x h ≡ true
-unfolding notWithItself implies
-with-others x h target partner away = all-of-made _ (
-    implies-made (h .flags .ipc && h .op .send .present) _ (λ i. rw (ne-eqb (h .op .send .target) x (target (and-right (h .flags .ipc) (h .op .send .present) i))) refl)
-    and rw away refl
-    and implies-made (h .flags .ipc) _ (λ i. rw partner refl)
-    and tt)

@@ -22,13 +22,17 @@ unfolding upTo
 take-up-to l d zero f long h = refl
 take-up-to l d (suc k) f long h = rw (take-suc l k d (omega arith), take-up-to l d k f (omega arith) (λ j i. h j (omega arith)), h k (omega arith)) refl
 
+-- the place of thread y's j-th word
+abbrev pub wordPlace : ℕ → ℕ → ℕ
+wordPlace y j = 8 * y + j
+
 -- ---- writes outside a thread's words
 -- place i is outside thread y's words
 abbrev pub Outside : ℕ → ℕ → Type 0
 Outside i y = (i < 8 * y) ⊎ (8 * y + 8 ≤ i)
 
 -- a place of thread x's words is outside those of any other thread
-pub outside-other : (x y k : ℕ) → y ≢ x → k < 8 → Outside (8 * x + k) y
+pub outside-other : (x y k : ℕ) → y ≢ x → k < wordLimit → Outside (wordPlace x k) y
 outside-other x y k d l = by (ltb (8 * x + k) (8 * y))
     (λ e. inl (ltb-true (8 * x + k) (8 * y) e))
     (λ e. inr (let f : 8 * y ≤ 8 * x + k = ltb-false (8 * x + k) (8 * y) e in omega arith))
@@ -63,7 +67,7 @@ length-zeroed x store = length-sets store (8 * x) (replicate 8 0)
 -- ---- a word copied by thread h
 -- the place that it is written to
 abbrev pub copyPlace : Thread → ℕ
-copyPlace h = 8 * (h .op .send .target) + h .copied
+copyPlace h = wordPlace (h .op .send .target) (h .copied)
 
 module _ (h : Thread) (store : List ℕ) where
   -- the store keeps its length
@@ -82,13 +86,13 @@ module _ (h : Thread) (store : List ℕ) where
   word-copied-elsewhere i d = getD-set-other store (copyPlace h) i (getD (h .op .send .words) (h .copied) 0) 0 d
 
   -- the words of every thread but the target are as they were
-  pub words-copied-other : (y : ℕ) → y ≢ h .op .send .target → h .copied < 8 → wordsAt (wordCopied h store) y ≡ wordsAt store y
+  pub words-copied-other : (y : ℕ) → y ≢ h .op .send .target → h .copied < wordLimit → wordsAt (wordCopied h store) y ≡ wordsAt store y
   unfolding wordCopied
   words-copied-other y d l = words-set-other store (copyPlace h) _ y (outside-other (h .op .send .target) y (h .copied) d l)
 
 -- ---- the words of a thread
 -- thread y's word j
-pub word-at : (store : List ℕ) (y j : ℕ) → j < 8 → getD (wordsAt store y) j 0 ≡ getD store (8 * y + j) 0
+pub word-at : (store : List ℕ) (y j : ℕ) → j < wordLimit → getD (wordsAt store y) j 0 ≡ getD store (wordPlace y j) 0
 unfolding wordsAt
 word-at store y j l = getD-take 8 (drop (8 * y) store) j 0 l ∙ getD-drop (8 * y) store j 0
 
@@ -99,11 +103,11 @@ module _ (store : List ℕ) (n y : ℕ) (fit : length store ≡ 8 * n) (below : 
   length-words = length-take-le 8 (drop (8 * y) store) (rw length-drop (omega arith))
 
   -- the first k words of thread y, where the store has them one by one
-  pub words-are : (k : ℕ) (f : ℕ → ℕ) → k ≤ 8 → ((j : ℕ) → j < k → getD store (8 * y + j) 0 ≡ f j) → take k (wordsAt store y) ≡ upTo k f
+  pub words-are : (k : ℕ) (f : ℕ → ℕ) → k ≤ wordLimit → ((j : ℕ) → j < k → getD store (wordPlace y j) 0 ≡ f j) → take k (wordsAt store y) ≡ upTo k f
   words-are k f few h = take-up-to (wordsAt store y) 0 k f (omega (arith, length-words)) (λ j l. word-at store y j (omega arith) ∙ h j l)
 
   -- the words of a message, where the store has them one by one
-  pub words-are-message : (part : SendPart) → part .count ≤ wordLimit → ((j : ℕ) → j < part .count → getD store (8 * y + j) 0 ≡ getD (part .words) j 0)
+  pub words-are-message : (part : SendPart) → part .count ≤ wordLimit → ((j : ℕ) → j < part .count → getD store (wordPlace y j) 0 ≡ getD (part .words) j 0)
       → take (part .count) (wordsAt store y) ≡ message part
   unfolding message
   words-are-message part few h = words-are (part .count) (λ i. getD (part .words) i 0) few h

@@ -1,6 +1,6 @@
 -- Laws of times: `left` stays in range.
-use mathlib.Core.Path.{_≡_, refl}
-use mathlib.Core.Bool.{true}
+use mathlib.Core.Path.{_≡_, refl, sym, _∙_}
+use mathlib.Core.Bool.{true, or-false}
 use Prim.Native.Nat.{ℕ, _-_}
 use native.Mathlib.Omega.{arith}
 use lib.ListN.{List·getD-eq-default}
@@ -9,7 +9,6 @@ use borrow.Author.Tests.{ltb-true, ltb-false, leb-true, le-leb}
 use Rattle.model.specs.Lists.{allBelow}
 use Rattle.model.specs.Shared.{never, tickCounts, tickCount, isLeft, fall}
 use Rattle.model.proofs.Laws.{by, all-below-read}
-use Rattle.laws.proofs.Lists.{or-false}
 
 -- `left` may be the ticks of any time code
 pub left-from-code : (code : ℕ) → isLeft (tickCount code) ≡ true
@@ -23,4 +22,4 @@ pub left-falls : (left : ℕ) → isLeft left ≡ true → isLeft (fall left) �
 unfolding isLeft fall
 left-falls left e = by (eqb left never)
     (λ i. rw i e)
-    (λ i. rw (i, le-leb (left - 1) (tickCount 14) (omega (arith, leb-true left (tickCount 14) (or-false (leb left (tickCount 14)) (rw i at e))))) refl)
+    (λ i. rw (i, le-leb (left - 1) (tickCount 14) (omega (arith, leb-true left (tickCount 14) (sym (or-false (leb left (tickCount 14))) ∙ rw i at e)))) refl)

@@ -1,28 +1,21 @@
 -- A send part is completed by its rendezvous and by nothing else; likewise a receive part.
 use mathlib.Core.Path.{_≡_, refl, sym, ap, _∙_, subst}
-use mathlib.Core.Bool.{true, false}
+use mathlib.Core.Bool.{false}
 use mathlib.Core.Option.{some}
 use mathlib.Core.List.{[]}
 use Prim.Native.Nat.{ℕ, _+_}
 use native.Mathlib.Omega.{arith}
 use lib.IntN.{ℤ}
-use Rattle.model.specs.declared.Receive.{Receive}
-use Rattle.model.specs.declared.Receive.the-variants.{Absent, Open, Closed}
 use Rattle.model.specs.declared.Operation.{Operation}
 use Rattle.model.specs.Lists.{bit}
-use Rattle.model.specs.Shared.{codeOnly, targetBeyond, hasReceive, accepts}
+use Rattle.model.specs.Shared.{codeOnly, targetBeyond, hasReceive}
 use Rattle.model.specs.Atomic.{runs, AtomicThread, Machine, ending, beginning, CanAbort, cancelledSending, lateSending, cancelledReceiving, lateReceiving}
 use Rattle.model.specs.Linearization.{Entry}
 use Rattle.model.proofs.Laws.{by}
+use Rattle.laws.proofs.Acceptable.{accepts-there}
 use Rattle.pairing.proofs.Sides.{Side, sender, receiver, takesPart, completed}
 use Rattle.pairing.proofs.Effects.{Effect, kept, aborted, turned, sent, received}
 use Rattle.pairing.proofs.Operations.{PartOf, RunsOnly}
-
--- what accepts a sender is there
-accepts-there : (w : Receive) (s : ℕ) → accepts w s ≡ true → hasReceive w ≡ true
-accepts-there Absent s e = e
-accepts-there (Open t) s e = refl
-accepts-there (Closed t) s e = refl
 
 module _ (n : ℕ) (p : Machine) (x : ℕ) (o : Operation) (t : RunsOnly o (p x)) where
   -- an abort completes no part

@@ -11,9 +11,10 @@ use Rattle.model.specs.declared.Receive.{Receive}
 use Rattle.model.specs.declared.Operation.{Operation}
 use Rattle.model.specs.Lists.{update}
 use Rattle.model.specs.Shared.{done, codeOnly, hasReceive, accepts, message}
-use Rattle.model.specs.Atomic.{Run, nothing, sending, receiving, AtomicThread, Machine, begins, cancels, ticks, rendezvous, aborts, runs, ending, turning, beginning, cancelling, ticking, receiverAfter, senderAfter, play, isReceiving, acceptsIn, readyFor, CanAbort, cancelledSending, lateSending, cancelledReceiving, lateReceiving, Can}
+use Rattle.model.specs.Atomic.{Run, nothing, sending, receiving, AtomicThread, Machine, begins, cancels, ticks, rendezvous, aborts, runs, ending, turning, beginning, cancelling, ticking, receiverAfter, senderAfter, play, isReceiving, acceptsIn, CanAbort, cancelledSending, lateSending, cancelledReceiving, lateReceiving, Can}
 use Rattle.model.specs.Linearization.{Entry, playEntry, Allowed, beginsBy}
-use Rattle.model.proofs.Laws.{by, same?, all-of-read}
+use Rattle.model.proofs.Laws.{by, same?}
+use Rattle.laws.proofs.Ready.{ready-for-read}
 use Rattle.laws.proofs.Lists.{update-same, update-other}
 use Rattle.pairing.proofs.Sides.{Side, sender, receiver, ofSide, OnSides}
 
@@ -45,10 +46,9 @@ receive-part (receiving w) s i a = (w, refl, a)
 
 -- a rendezvous has its two threads
 pub parties : (n : ℕ) (p : Machine) (s r : ℕ) → Can n (rendezvous s r) p → Parties p s r
-unfolding readyFor
 parties n p s r c =
-    let ready = all-of-read _ (c .3) in
-    let h = receive-part (p r .run) s (ready .0) (ready .1 .1 .0) in
+    let ready = ready-for-read p r s (c .3) in
+    let h = receive-part (p r .run) s (ready .receiving) (ready .accepting) in
     record { operation = c .2 .operation; wait = h .0; sends = c .2 .runs; target = c .2 .target; waits = h .1; accepted = h .2 }
 
 module _ (p : Machine) (s r : ℕ) (h : Parties p s r) where

@@ -13,7 +13,7 @@ use Rattle.model.specs.Threads.{copy, withCopied, wordsAt}
 use Rattle.model.specs.Step.{wordCopied}
 use Rattle.model.specs.Atomic.{Run, nothing, sending, receiving, runs, AtomicThread}
 use Rattle.model.proofs.Laws.{by, same?, implies-read}
-use Rattle.laws.proofs.Store.{word-at, word-copied-here, word-copied-elsewhere}
+use Rattle.laws.proofs.Store.{wordPlace, word-at, word-copied-here, word-copied-elsewhere}
 use Rattle.invariant.proofs.Flags.{cases, isOneOf, told-any}
 use Rattle.invariant.proofs.Own.{Own}
 use Rattle.invariant.proofs.Facts.{count-small, copied-small}
@@ -37,7 +37,7 @@ runs-with-ipc false send o = refl
 
 -- the words that thread h has copied stand in its receiver's slice of the store
 abbrev pub CopiedBy : ℕ → List ℕ → Thread → Type 0
-CopiedBy n store h = copiesTo h < n → (j : ℕ) → j < h .copied → getD store (8 * copiesTo h + j) 0 ≡ getD (h .op .send .words) j 0
+CopiedBy n store h = copiesTo h < n → (j : ℕ) → j < h .copied → getD store (wordPlace (copiesTo h) j) 0 ≡ getD (h .op .send .words) j 0
 
 -- those of every thread of the table
 abbrev pub Copied : ℕ → (ℕ → Thread) → List ℕ → Type 0
@@ -72,7 +72,7 @@ pub copied-more : (n : ℕ) (store : List ℕ) (h : Thread) → length store ≡
 unfolding copiesTo
 copied-more n store h fit few to before l j jk =
     let below : h .op .send .target < n = subst (λ (r : ℕ). r < n) to l in
-    let earlier : getD store (8 * copiesTo h + j) 0 ≡ getD store (8 * h .op .send .target + j) 0 = ap (λ (r : ℕ). getD store (8 * r + j) 0) to in
-    ap (λ (r : ℕ). getD (wordCopied h store) (8 * r + j) 0) to ∙ same? j (h .copied)
+    let earlier : getD store (wordPlace (copiesTo h) j) 0 ≡ getD store (wordPlace (h .op .send .target) j) 0 = ap (λ (r : ℕ). getD store (wordPlace r j) 0) to in
+    ap (λ (r : ℕ). getD (wordCopied h store) (wordPlace r j) 0) to ∙ same? j (h .copied)
     (λ e. rw e (word-copied-here h store (omega arith)))
-    (λ d. word-copied-elsewhere h store (8 * h .op .send .target + j) (omega arith) ∙ sym earlier ∙ before l j (omega arith))
+    (λ d. word-copied-elsewhere h store (wordPlace (h .op .send .target) j) (omega arith) ∙ sym earlier ∙ before l j (omega arith))
