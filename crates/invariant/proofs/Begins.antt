@@ -19,14 +19,16 @@ use Rattle.model.proofs.Laws.{implies-read, implies-made, _and_, all-of-read, a
 use Rattle.laws.proofs.Tables.{edit-at, below-length}
 use Rattle.laws.proofs.Phases.{lock-held-in}
 use Rattle.laws.proofs.Times.{left-from-code, left-falls}
-use Rattle.laws.proofs.Ready.{not-ready}
+use Rattle.laws.proofs.Ready.{never-ready}
 use Rattle.laws.proofs.Queues.{senders-joined}
-use Rattle.invariant.proofs.Flags.{cases, flagsFit, told-any-if, fitsIn}
-use Rattle.invariant.proofs.Own.{outcomeFits, operationFits, phaseFits, Own}
+use Rattle.formed.proofs.Flags.{cases, flagsFit, told-any-if, fitsIn}
+use Rattle.formed.proofs.Own.{outcomeFits, operationFits, phaseFits, Own}
 use Rattle.invariant.proofs.Changes.{bare-fits, own-joined, own-ended}
-use Rattle.invariant.proofs.Globals.{queues-join, copies-free}
-use Rattle.invariant.proofs.Formed.{owner, copiesTo, readings, of, Formed, kept, here, there, formed-changed, formed-one}
-use Rattle.invariant.proofs.Neighbours.{copies-in, sends-nowhere, queue-room, no-copier, in-phase}
+use Rattle.formed.proofs.Queues.{queues-join}
+use Rattle.formed.proofs.Copies.{copies-free}
+use Rattle.formed.proofs.Formed.{owner, copiesTo, readings, of, Formed}
+use Rattle.formed.proofs.Neighbours.{silent, quiet-in-idle, copies-in, sends-nowhere, queue-room, no-copier, in-phase}
+use Rattle.invariant.proofs.Changed.{kept, here, there, formed-changed, formed-one}
 
 -- what is asked of an operation that thread x begins in a table of n threads
 pub record CanBegin (n x : ℕ) (o : Operation) : Type 0 where
@@ -70,22 +72,20 @@ sending-busy : (r : Bool) → (true && r && not true) ≡ false
 sending-busy true = refl
 sending-busy false = refl
 
-module _ {n : ℕ} {T : ℕ → Thread} (F : Formed n T) (x : ℕ) (xn : x < n) (mine : T x .owner ≡ nobody) where
+module _ {n : ℕ} {T : ℕ → Thread} (F : Formed n T) (x : ℕ) (xn : x < n) (unowned : T x .owner ≡ nobody) where
   abbrev h : Thread
   h = T x
 
   -- ---- begin, by an idle thread
   module _ (rest : phaseOf (h .phase) ≡ idle) where
+    -- it does not send
     quiet : h .flags .send ≡ false
-    unfolding cases
-    quiet = not-true _ (in-phase F x xn idle rest (λ v r s. not (v .send)) refl)
+    quiet = quiet-in-idle F x xn rest
 
+    -- it is ready for nobody
     not-waiting : _≡_ {A = ℕ → Bool} (ready h) (λ s. false)
     unfolding cases
-    not-waiting = fun-ext (not-ready h (not-true _ (in-phase F x xn idle rest (λ v r s. not (v .ipc && v .receiving && not (v .send))) refl)))
-
-    silent : _≡_ {A = ℕ → Bool} (λ u. false) (sendsTo h)
-    silent = fun-ext (λ u. sym (sends-nowhere h quiet u))
+    not-waiting = never-ready h (not-true _ (in-phase F x xn idle rest (λ v r s. not (v .ipc && v .receiving && not (v .send))) refl))
 
     -- to send
     pub begin-send-keeps : (o : Operation) → CanBegin n x o → o .send .present ≡ true → o .send .target < n
@@ -96,7 +96,7 @@ module _ {n : ℕ} {T : ℕ → Thread} (F : Formed n T) (x : ℕ) (xn : x < n) 
         let f : Thread = begun o lock h in
         let room = queue-room F x r xn rn quiet in
         formed-changed F x r f (joined x (T r))
-        (record { owner = kept refl refl; held = kept refl (sym (lock-held-in h idle rest)); sends = here refl; queue = there (l .target sends) refl; copies = kept refl (sym (copies-in F x xn idle rest)); ready = kept refl (fun-ext (not-ready f (rw sends (sending-busy (hasReceive (o .receive))))) ∙ sym not-waiting) })
+        (record { owner = kept refl refl; held = kept refl (sym (lock-held-in h idle rest)); sends = here refl; queue = there (l .target sends) refl; copies = kept refl (sym (copies-in F x xn idle rest)); ready = kept refl (never-ready f (rw sends (sending-busy (hasReceive (o .receive)))) ∙ sym not-waiting) })
         (record {
           other = λ rn. own-joined (F .own r rn) x room;
           own = begun-own n x h o lock (F .own x xn) l (rw sends (lock-flags (hasReceive (o .receive)))) refl;
@@ -112,16 +112,16 @@ module _ {n : ℕ} {T : ℕ → Thread} (F : Formed n T) (x : ℕ) (xn : x < n) 
     unfolding begun begunFlags readings cases phaseFits
     begin-receive-keeps o l none receives =
         formed-one F x (begun o look h)
-        (record { owner = kept refl refl; held = kept refl (sym (lock-held-in h idle rest)); sends = kept refl (fun-ext (λ u. rw none refl) ∙ silent); queue = kept refl refl; copies = kept refl (sym (copies-in F x xn idle rest)); ready = here refl })
-        (record { other = F .own x; own = begun-own n x h o look (F .own x xn) l (rw (none, receives) refl) refl; queues = F .queues; owners = F .owners; chains = F .chains; copies = copies-free n (of copiesTo T) (of ready T) x _ (no-copier F x xn mine) (F .copies) })
+        (record { owner = kept refl refl; held = kept refl (sym (lock-held-in h idle rest)); sends = kept refl (fun-ext (λ u. rw none refl) ∙ sym (silent h quiet)); queue = kept refl refl; copies = kept refl (sym (copies-in F x xn idle rest)); ready = here refl })
+        (record { other = F .own x; own = begun-own n x h o look (F .own x xn) l (rw (none, receives) refl) refl; queues = F .queues; owners = F .owners; chains = F .chains; copies = copies-free n (of copiesTo T) (of ready T) x _ (no-copier F x xn unowned) (F .copies) })
 
     -- to a target that does not exist
     pub begin-beyond-keeps : Formed n (update T x (ended (codeOnly noReceiver) h))
     unfolding readings isCode
     begin-beyond-keeps =
         formed-one F x (ended (codeOnly noReceiver) h)
-        (record { owner = kept refl refl; held = kept refl refl; sends = kept refl silent; queue = kept refl refl; copies = kept refl refl; ready = here refl })
-        (record { other = F .own x; own = own-ended (F .own x xn) quiet _ (bare-fits n noReceiver refl refl); queues = F .queues; owners = F .owners; chains = F .chains; copies = copies-free n (of copiesTo T) (of ready T) x _ (no-copier F x xn mine) (F .copies) })
+        (record { owner = kept refl refl; held = kept refl refl; sends = kept refl (sym (silent h quiet)); queue = kept refl refl; copies = kept refl refl; ready = here refl })
+        (record { other = F .own x; own = own-ended (F .own x xn) quiet _ (bare-fits n noReceiver refl refl); queues = F .queues; owners = F .owners; chains = F .chains; copies = copies-free n (of copiesTo T) (of ready T) x _ (no-copier F x xn unowned) (F .copies) })
 
   -- ---- cancel of a running operation
   pub cancel-keeps : h .flags .ipc ≡ true → Formed n (update T x (marked h))
@@ -144,7 +144,7 @@ module _ {n : ℕ} {T : ℕ → Thread} (F : Formed n T) (x : ℕ) (xn : x < n) 
         queues = F .queues;
         owners = F .owners;
         chains = F .chains;
-        copies = copies-free n (of copiesTo T) (of ready T) x _ (no-copier F x xn mine) (F .copies);
+        copies = copies-free n (of copiesTo T) (of ready T) x _ (no-copier F x xn unowned) (F .copies);
       })
 
 -- ---- tick

@@ -1,6 +1,6 @@
 -- Changes of one thread that keep it well-formed by itself.
 use mathlib.Core.Path.{_≡_, refl}
-use mathlib.Core.Bool.{Bool, true, false, not}
+use mathlib.Core.Bool.{Bool, true, false, not, or-true}
 use Prim.Native.Nat.{ℕ, _+_, _-_, _≤_, _<_}
 use native.Mathlib.Omega.{arith}
 use lib.Dec.{eqb}
@@ -15,12 +15,11 @@ use Rattle.model.specs.Shared.{tickCount, done, nobody, codes, sameCode, wordLi
 use Rattle.model.specs.Threads.{Phase, noFlags, entering, withOwner, polled, ended, senders, joined, departed, phaseNumber, copy, release, wake, unlock}
 use Rattle.model.specs.WellFormed.{isCode, nobodyOrBelow}
 use Rattle.model.proofs.Laws.{implies-made, _and_, all-of-read, all-of-made}
-use Rattle.laws.proofs.Lists.{or-true}
 use Rattle.laws.proofs.Times.{left-from-code}
 use Rattle.laws.proofs.Queues.{departed-length, joined-length}
-use Rattle.invariant.proofs.Flags.{cases, flagsFit, FlagsFit, told-any, told-any-if}
-use Rattle.invariant.proofs.Own.{outcomeFits, operationFits, phaseFits, queueFits, Own}
-use Rattle.invariant.proofs.Facts.{Other, queue-small}
+use Rattle.formed.proofs.Flags.{cases, flagsFit, FlagsFit, told-any, told-any-if}
+use Rattle.formed.proofs.Own.{outcomeFits, operationFits, phaseFits, queueFits, Own}
+use Rattle.formed.proofs.Facts.{Other, queue-small}
 
 -- ---- numbers
 -- a thread of the table may own a lock

@@ -1,5 +1,5 @@
 -- The actions of a step by which an operation ends or its send part does: each keeps the threads well-formed.
-use mathlib.Core.Path.{_≡_, refl, sym, _∙_, fun-ext}
+use mathlib.Core.Path.{_≡_, refl, sym, _∙_}
 use mathlib.Core.Bool.{Bool, true, false, not, _&&_}
 use Prim.Native.Nat.{ℕ, _≤_, _<_}
 use native.Mathlib.Omega.{arith}
@@ -14,17 +14,19 @@ use Rattle.model.specs.Step.{abortSend, finishCall, finishSend, abortReceive, r
 use Rattle.model.proofs.Laws.{same?}
 use Rattle.laws.proofs.Lists.{update-same, update-other}
 use Rattle.laws.proofs.Phases.{lock-held-in}
-use Rattle.laws.proofs.Ready.{ready-read, not-ready}
+use Rattle.laws.proofs.Ready.{ready-read, never-ready}
 use Rattle.laws.proofs.Queues.{senders-departed}
 use Rattle.laws.proofs.Decided.{otherOf, afterAction}
-use Rattle.invariant.proofs.Flags.{cases, fitsIn}
-use Rattle.invariant.proofs.Own.{phaseFits, Own}
-use Rattle.invariant.proofs.Facts.{Other, target-other, count-small, queue-small}
+use Rattle.formed.proofs.Flags.{cases, fitsIn}
+use Rattle.formed.proofs.Own.{phaseFits, Own}
+use Rattle.formed.proofs.Facts.{Other, target-other, count-small, queue-small}
 use Rattle.invariant.proofs.Changes.{operation-over, operation-reloaded, release-fits, bare-fits, received-fits, own-departed, own-ended}
-use Rattle.invariant.proofs.Globals.{Queues, Copies, queues-leave, copies-end, copies-free}
-use Rattle.invariant.proofs.Formed.{owner, copiesTo, readings, of, Formed, kept, here, there, both, formed-changed}
-use Rattle.invariant.proofs.Neighbours.{few, copies-in, sends-to, sends-nowhere, sends-in-check, sends-in-copy, queued-at-target, no-copier, in-phase, in-phase-if}
-use Rattle.invariant.proofs.Receivers.{receiver-ready, copies-alone}
+use Rattle.formed.proofs.Queues.{Queues, queues-leave}
+use Rattle.formed.proofs.Copies.{Copies, copies-end, copies-free}
+use Rattle.formed.proofs.Formed.{owner, copiesTo, readings, of, Formed}
+use Rattle.formed.proofs.Neighbours.{silent, quiet-in-look, few, copies-in, sends-to, sends-in-check, sends-in-copy, queued-at-target, no-copier, in-phase, in-phase-if}
+use Rattle.formed.proofs.Receivers.{receiver-ready, copies-alone}
+use Rattle.invariant.proofs.Changed.{kept, here, there, both, formed-changed}
 
 module _ {n : ℕ} {T : ℕ → Thread} (F : Formed n T) (x : ℕ) (xn : x < n) where
   abbrev h : Thread
@@ -47,10 +49,6 @@ module _ {n : ℕ} {T : ℕ → Thread} (F : Formed n T) (x : ℕ) (xn : x < n) 
         queues-leave n (of sendsTo T) (of senders T) x target now _ xn (to .below) (sends-to h sends) silent
         (senders-departed x (T target) (w .items) (queue-small w) queued) (F .queues)
 
-  -- a thread whose flags say so is ready for nobody
-  unready : (g : Thread) → (g .flags .ipc && g .flags .receiving && not (g .flags .send)) ≡ false → _≡_ {A = ℕ → Bool} (ready g) (λ s. false)
-  unready g e = fun-ext (not-ready g e)
-
   -- check: its send is aborted
   pub abort-send-keeps : (c : ℤ) → isCode codes c ≡ true → sameCode running c ≡ false → phaseOf (h .phase) ≡ check → Formed n (afterAction (abortSend c) T x)
   unfolding ownAfter otherAfter departed readings cases
@@ -59,7 +57,7 @@ module _ {n : ℕ} {T : ℕ → Thread} (F : Formed n T) (x : ℕ) (xn : x < n) 
       let sends : h .flags .send ≡ true = sends-in-check F x xn p in
       let busy : (h .flags .ipc && h .flags .receiving && not (h .flags .send)) ≡ false = not-true _ (in-phase F x xn check p (λ v r s. not (v .ipc && v .receiving && not (v .send))) refl) in
       formed-changed F x target (ownAfter (abortSend c) h) (otherAfter (abortSend c) x h (T target))
-      (record { owner = kept refl refl; held = kept refl (sym (lock-held-in h check p)); sends = here refl; queue = there (to sends .apart) refl; copies = kept refl (sym (copies-in F x xn check p)); ready = kept refl (unready (ownAfter (abortSend c) h) refl ∙ sym (unready h busy)) })
+      (record { owner = kept refl refl; held = kept refl (sym (lock-held-in h check p)); sends = here refl; queue = there (to sends .apart) refl; copies = kept refl (sym (copies-in F x xn check p)); ready = kept refl (never-ready (ownAfter (abortSend c) h) refl ∙ sym (never-ready h busy)) })
       (record {
         other = λ rn. own-departed (F .own target rn) x (queued sends);
         own = record {
@@ -79,11 +77,10 @@ module _ {n : ℕ} {T : ℕ → Thread} (F : Formed n T) (x : ℕ) (xn : x < n) 
   -- look: its receive is aborted
   pub abort-receive-keeps : (c : ℤ) → isCode codes c ≡ true → sameCode running c ≡ false → phaseOf (h .phase) ≡ look → h .owner ≡ nobody → Formed n (afterAction (abortReceive c) T x)
   unfolding ownAfter otherAfter readings cases phaseFits
-  abort-receive-keeps c known over p mine =
+  abort-receive-keeps c known over p unowned =
       let w : Own n x h = F .own x xn in
-      let quiet : h .flags .send ≡ false = not-true _ (in-phase F x xn look p (λ v r s. not (v .send)) refl) in
       formed-changed F x (otherOf (abortReceive c) h) (ownAfter (abortReceive c) h) (otherAfter (abortReceive c) x h (T (otherOf (abortReceive c) h)))
-      (record { owner = kept refl refl; held = kept refl (sym (lock-held-in h look p)); sends = kept refl (fun-ext (λ u. sym (sends-nowhere h quiet u))); queue = kept refl refl; copies = kept refl (sym (copies-in F x xn look p)); ready = here refl })
+      (record { owner = kept refl refl; held = kept refl (sym (lock-held-in h look p)); sends = kept refl (sym (silent h (quiet-in-look F x xn p))); queue = kept refl refl; copies = kept refl (sym (copies-in F x xn look p)); ready = here refl })
       (record {
         other = F .own (otherOf (abortReceive c) h);
         own = record {
@@ -97,11 +94,11 @@ module _ {n : ℕ} {T : ℕ → Thread} (F : Formed n T) (x : ℕ) (xn : x < n) 
         queues = F .queues;
         owners = F .owners;
         chains = F .chains;
-        copies = copies-free n (of copiesTo T) (of ready T) x _ (no-copier F x xn mine) (F .copies);
+        copies = copies-free n (of copiesTo T) (of ready T) x _ (no-copier F x xn unowned) (F .copies);
       })
 
   -- ---- copy: its message is delivered, with a receive part or without
-  module _ (p : phaseOf (h .phase) ≡ copy) (mine : h .owner ≡ nobody) where
+  module _ (p : phaseOf (h .phase) ≡ copy) (unowned : h .owner ≡ nobody) where
     sends : h .flags .send ≡ true
     sends = sends-in-copy F x xn p
 
@@ -111,7 +108,7 @@ module _ {n : ℕ} {T : ℕ → Thread} (F : Formed n T) (x : ℕ) (xn : x < n) 
         let l = few F in
         let below = to sends .below in
         copies-free n (update (of copiesTo T) x nobody) (update (of ready T) target a) x b
-        (λ y yn. same? y x (λ e. rw (e, update-same) (omega arith)) (λ d. rw (update-other (of copiesTo T) x nobody y d) (no-copier F x xn mine y yn)))
+        (λ y yn. same? y x (λ e. rw (e, update-same) (omega arith)) (λ d. rw (update-other (of copiesTo T) x nobody y d) (no-copier F x xn unowned y yn)))
         (copies-free n (update (of copiesTo T) x nobody) (of ready T) target a
         (λ y yn. same? y x (λ e. rw (e, update-same) (omega arith)) (λ d. rw (update-other (of copiesTo T) x nobody y d) (copies-alone F x xn p y yn d)))
         (copies-end n (of copiesTo T) (of ready T) x l (F .copies)))
@@ -125,7 +122,7 @@ module _ {n : ℕ} {T : ℕ → Thread} (F : Formed n T) (x : ℕ) (xn : x < n) 
 
     -- it sent to nobody and does not now
     receiver-silent : _≡_ {A = ℕ → Bool} (λ u. false) (sendsTo (T target))
-    receiver-silent = fun-ext (λ u. sym (sends-nowhere (T target) (ready-read (T target) x (receiver-ready F x xn p) .notSending) u))
+    receiver-silent = sym (silent (T target) (ready-read (T target) x (receiver-ready F x xn p) .notSending))
 
     -- with a receive part
     pub finish-call-keeps : hasReceive (h .op .receive) ≡ true → Formed n (afterAction finishCall T x)

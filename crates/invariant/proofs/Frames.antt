@@ -4,51 +4,37 @@ use mathlib.Core.Logic.{⊎-elim}
 use mathlib.Core.List.{List}
 use Prim.Native.Nat.{ℕ}
 use lib.ListN.{length}
-use Rattle.model.specs.declared.Operation.{Operation}
 use Rattle.model.specs.declared.Thread.{Thread}
-use Rattle.model.specs.declared.Table.{Table}
-use Rattle.model.specs.Shared.{targetBeyond}
 use Rattle.model.specs.Threads.{at, edit, joined, marked}
 use Rattle.model.specs.Step.{Action, decide, storeAfter}
-use Rattle.model.specs.Calls.{ticked, beginTable, cancelTable, tickTable, Call, begin, step, cancel, tick, State, acceptedState}
+use Rattle.model.specs.Calls.{ticked, tickTable, Call, begin, step, cancel, tick, State, acceptedState}
 use Rattle.model.specs.Promise.{next}
-use Rattle.model.proofs.Laws.{by}
 use Rattle.laws.proofs.Tables.{edit-n, below-n, act-n}
 use Rattle.laws.proofs.Store.{length-zeroed, length-word-copied, step-store}
-use Rattle.laws.proofs.Calls.{accepted?, accepted-next, refused-next, target-beyond, begins-to-send, begins-to-receive, cancel-marks, cancel-nothing}
+use Rattle.laws.proofs.Calls.{next-cases, begin-cases, cancel-cases}
 
 -- ---- the number of threads
-begin-size : (x : ℕ) (o : Operation) (t : Table) → beginTable x o t .n ≡ t .n
-begin-size x o t =
-    by (targetBeyond (t .n) o)
-    (λ e. ap (λ (after : Table). after .n) (target-beyond x o t e) ∙ edit-n x _ t)
-    (λ e. by (o .send .present)
-    (λ sends. ap (λ (after : Table). after .n) (begins-to-send x o t e sends) ∙ edit-n x _ (edit (o .send .target) (joined x) t) ∙ edit-n (o .send .target) (joined x) t)
-    (λ none. ap (λ (after : Table). after .n) (begins-to-receive x o t none) ∙ edit-n x _ t))
-
-cancel-size : (x : ℕ) (t : Table) → cancelTable x t .n ≡ t .n
-cancel-size x t =
-    by (at t x .flags .ipc)
-    (λ e. ap (λ (after : Table). after .n) (cancel-marks x t e) ∙ edit-n x marked t)
-    (λ e. ap (λ (after : Table). after .n) (cancel-nothing x t e))
-
+-- that of an accepted call
 accepted-size : (c : Call) (s : State) → acceptedState c s .table .n ≡ s .table .n
 unfolding acceptedState tickTable
-accepted-size (begin x o) s = begin-size x o (s .table)
+accepted-size (begin x o) s = let t = s .table in begin-cases x o t (λ after. after .n ≡ t .n)
+    (λ far. edit-n x _ t)
+    (λ near sends below. edit-n x _ (edit (o .send .target) (joined x) t) ∙ edit-n (o .send .target) (joined x) t)
+    (λ near alone. edit-n x _ t)
 accepted-size (step x) s = act-n (decide (s .table) x) x (s .table)
-accepted-size (cancel x) s = cancel-size x (s .table)
+accepted-size (cancel x) s = cancel-cases x (s .table) (λ after. after .n ≡ s .table .n) (λ runs. edit-n x marked (s .table)) (λ over. refl)
 accepted-size tick s = below-n ticked (s .table) (s .table .n)
 
 -- no call changes it
 pub next-size : (c : Call) (s : State) → next c s .table .n ≡ s .table .n
-next-size c s = accepted? c s
-    (λ e. ap (λ (after : State). after .table .n) (accepted-next c s e) ∙ accepted-size c s)
-    (λ g e. ap (λ (after : State). after .table .n) (refused-next c s g e))
+next-size c s = next-cases c s (λ after. after .table .n ≡ s .table .n) (λ e. accepted-size c s) refl
 
 -- ---- the store's length
+-- that of a step
 step-store-length : (a : Action) (h : Thread) (store : List ℕ) → length (storeAfter a h store) ≡ length store
 step-store-length a h store = ⊎-elim (λ e. ap length e) (λ e. ap length (e .1) ∙ length-word-copied h store) (step-store a h store)
 
+-- that of an accepted call
 accepted-store-length : (c : Call) (s : State) → length (acceptedState c s .store) ≡ length (s .store)
 unfolding acceptedState
 accepted-store-length (begin x o) s = length-zeroed x (s .store)
@@ -58,6 +44,4 @@ accepted-store-length tick s = refl
 
 -- no call changes it
 pub next-store-length : (c : Call) (s : State) → length (next c s .store) ≡ length (s .store)
-next-store-length c s = accepted? c s
-    (λ e. ap (λ (after : State). length (after .store)) (accepted-next c s e) ∙ accepted-store-length c s)
-    (λ g e. ap (λ (after : State). length (after .store)) (refused-next c s g e))
+next-store-length c s = next-cases c s (λ after. length (after .store) ≡ length (s .store)) (λ e. accepted-store-length c s) refl

@@ -1,31 +1,27 @@
 -- Every call keeps a table well-formed, refused or not, from every well-formed table.
-use mathlib.Core.Path.{_≡_, sym, ap, _∙_, subst}
+use mathlib.Core.Path.{_≡_, sym, _∙_, subst}
 use mathlib.Core.Logic.{_≢_}
 use mathlib.Core.Bool.{true, false}
-use mathlib.Core.List.{[], _∷_}
 use Prim.Native.Nat.{ℕ, _<_}
 use native.Mathlib.Omega.{arith}
 use lib.ListN.{length}
-use borrow.Author.Tests.{eqb-true, leb-false}
 use Rattle.model.specs.declared.Operation.{Operation}
 use Rattle.model.specs.declared.Thread.{Thread}
 use Rattle.model.specs.declared.Table.{Table}
 use Rattle.model.specs.Lists.{update}
-use Rattle.model.specs.Shared.{nobody, targetBeyond, hasReceive}
-use Rattle.model.specs.Threads.{idle, phaseOf, at, edit, joined}
-use Rattle.model.specs.WellFormed.{inPhase, Shaped, WellFormed, wellFormed}
+use Rattle.model.specs.Shared.{nobody, targetBeyond}
+use Rattle.model.specs.Threads.{at, edit, joined}
+use Rattle.model.specs.WellFormed.{Shaped, WellFormed, wellFormed}
 use Rattle.model.specs.Step.{decide}
 use Rattle.model.specs.Calls.{ticked, beginTable, tickTable, Call, begin, step, cancel, tick, State, acceptedState}
 use Rattle.model.specs.Refusals.{refusal}
 use Rattle.model.specs.Promise.{next}
-use Rattle.model.proofs.Laws.{by}
 use Rattle.model.proofs.Tested.{well-formed-tested, well-formed-told}
-use Rattle.laws.proofs.Lists.{or-false}
 use Rattle.laws.proofs.Tables.{edit-at, edit-length, edit-two-at, below-length, act-length}
 use Rattle.laws.proofs.Decided.{lock-free-read}
 use Rattle.laws.proofs.Refusals.{AcceptedBegin, accepted-table, accepted-begin, accepted-step, accepted-cancel}
-use Rattle.laws.proofs.Calls.{accepted?, accepted-next, refused-next, target-beyond, begins-to-send, begins-to-receive, cancel-marks, cancel-nothing}
-use Rattle.invariant.proofs.Formed.{Formed, formed-read, formed-told}
+use Rattle.laws.proofs.Calls.{accepted?, accepted-next, refused-next, begin-cases, cancel-cases}
+use Rattle.formed.proofs.Formed.{Formed, formed-grouped, formed-ungrouped}
 use Rattle.invariant.proofs.Frames.{next-size}
 use Rattle.invariant.proofs.Steps.{step-keeps}
 use Rattle.invariant.proofs.Begins.{CanBegin, begin-send-keeps, begin-receive-keeps, begin-beyond-keeps, cancel-keeps, tick-keeps}
@@ -34,11 +30,6 @@ use Rattle.invariant.proofs.Begins.{CanBegin, begin-send-keeps, begin-r
 pub record Kept (n : ℕ) (after : Table) : Type 0 where
   pub whole : length (after .threads) ≡ 32
   pub formed : Formed n (at after)
-
--- a thread in idle, by the test
-in-idle : (h : Thread) → inPhase (idle ∷ []) h ≡ true → phaseOf (h .phase) ≡ idle
-unfolding inPhase phaseOf
-in-idle h e = ap phaseOf (eqb-true (h .phase) 0 (or-false _ e))
 
 module _ (t : Table) (whole : length (t .threads) ≡ 32) (F : Formed (t .n) (at t)) where
   -- one thread is edited
@@ -54,41 +45,19 @@ module _ (t : Table) (whole : length (t .threads) ≡ 32) (F : Formed (t .n) (at
     formed = subst (Formed (t .n)) (sym (edit-two-at x r f g t (omega arith) (omega arith) apart)) after;
   }
 
--- the target of a send part is in the table unless it is beyond
-pub target-near : (n : ℕ) (o : Operation) → o .send .present ≡ true → targetBeyond n o ≡ false → o .send .target < n
-unfolding targetBeyond
-target-near n o sends e = leb-false n (o .send .target) (rw sends at e)
-
 -- an accepted begin
 begin-kept : (x : ℕ) (o : Operation) (s : State) → AcceptedBegin s x o → length (s .table .threads) ≡ 32 → Formed (s .table .n) (at (s .table)) → Kept (s .table .n) (beginTable x o (s .table))
-begin-kept x o s b whole F =
-    by (targetBeyond n o)
-    (λ e. subst (Kept n) (sym (target-beyond x o t e)) (edited t whole F x _ xn (begin-beyond-keeps F x xn mine rest)))
-    (λ e. by (o .send .present)
-    (λ sends. subst (Kept n) (sym (begins-to-send x o t e sends))
-    (edited-two t whole F x (o .send .target) _ (joined x) xn (target-near n o sends e) (λ i. b .otherTarget sends (sym i)) (begin-send-keeps F x xn mine rest o (canBegin e) sends (target-near n o sends e))))
-    (λ none. subst (Kept n) (sym (begins-to-receive x o t none)) (edited t whole F x _ xn (begin-receive-keeps F x xn mine rest o (canBegin e) none (receives none)))))
+begin-kept x o s b whole F = let t = s .table in begin-cases x o t (Kept (t .n))
+    (λ far. edited t whole F x _ (b .below) (begin-beyond-keeps F x (b .below) unowned (b .inIdle)))
+    (λ near sends below. edited-two t whole F x (o .send .target) _ (joined x) (b .below) below (λ i. b .otherTarget sends (sym i))
+    (begin-send-keeps F x (b .below) unowned (b .inIdle) o (canBegin near) sends below))
+    (λ near alone. edited t whole F x _ (b .below) (begin-receive-keeps F x (b .below) unowned (b .inIdle) o (canBegin near) alone (rw alone at (b .part))))
   where
-    t : Table
-    t = s .table
+    unowned : at (s .table) x .owner ≡ nobody
+    unowned = lock-free-read (at (s .table) x) (b .free)
 
-    n : ℕ
-    n = s .table .n
-
-    xn : x < n
-    xn = b .below
-
-    mine : at t x .owner ≡ nobody
-    mine = lock-free-read (at t x) (b .free)
-
-    rest : phaseOf (at t x .phase) ≡ idle
-    rest = in-idle (at t x) (b .inIdle)
-
-    receives : o .send .present ≡ false → hasReceive (o .receive) ≡ true
-    receives none = rw none at (b .part)
-
-    canBegin : targetBeyond n o ≡ false → CanBegin n x o
-    canBegin e = record { sends = b .sends e; receives = b .receives; target = b .otherTarget; partner = b .otherPartner }
+    canBegin : targetBeyond (s .table .n) o ≡ false → CanBegin (s .table .n) x o
+    canBegin near = record { sends = b .sends near; receives = b .receives; target = b .otherTarget; partner = b .otherPartner }
 
 -- every accepted call
 accepted-keeps : (c : Call) (s : State) → refusal c s ≡ 0 → length (s .table .threads) ≡ 32 → Formed (s .table .n) (at (s .table)) → Kept (s .table .n) (acceptedState c s .table)
@@ -98,10 +67,9 @@ accepted-keeps (step x) s e whole F = record {
   whole = act-length (decide (s .table) x) x (s .table) ∙ whole;
   formed = step-keeps (s .table) F x (accepted-step x s e .below) whole;
 }
-accepted-keeps (cancel x) s e whole F = let a = accepted-cancel x s e in
-    by (at (s .table) x .flags .ipc)
-    (λ runs. subst (Kept (s .table .n)) (sym (cancel-marks x (s .table) runs)) (edited (s .table) whole F x _ (a .below) (cancel-keeps F x (a .below) (lock-free-read _ (a .free)) runs)))
-    (λ over. subst (Kept (s .table .n)) (sym (cancel-nothing x (s .table) over)) (record { whole = whole; formed = F }))
+accepted-keeps (cancel x) s e whole F = let a = accepted-cancel x s e in cancel-cases x (s .table) (Kept (s .table .n))
+    (λ runs. edited (s .table) whole F x _ (a .below) (cancel-keeps F x (a .below) (lock-free-read _ (a .free)) runs))
+    (λ over. record { whole = whole; formed = F })
 accepted-keeps tick s e whole F = record {
   whole = below-length ticked (s .table) (s .table .n) ∙ whole;
   formed = tick-keeps (s .table) whole F (s .table .n) (omega arith);
@@ -111,7 +79,7 @@ accepted-keeps tick s e whole F = record {
 module _ (c : Call) (s : State) where
   -- an accepted call found a well-formed table
   pub found-formed : Shaped (s .table) → refusal c s ≡ 0 → Formed (s .table .n) (at (s .table))
-  found-formed z e = formed-read (s .table) (well-formed-told (s .table) (accepted-table c s e .formed)) z
+  found-formed z e = formed-grouped (s .table) (well-formed-told (s .table) (accepted-table c s e .formed)) z
 
   -- what an accepted call leaves
   pub accepted-kept : Shaped (s .table) → refusal c s ≡ 0 → Kept (s .table .n) (next c s .table)
@@ -121,13 +89,13 @@ module _ (c : Call) (s : State) where
   pub keeps-shaped : Shaped (s .table) → Shaped (next c s .table)
   keeps-shaped z = accepted? c s
       (λ e. let k = accepted-kept z e in record { threads = k .whole; queues = λ x xn. k .formed .own x (rw (next-size c s) at xn) .items })
-      (λ g e. subst (λ (after : State). Shaped (after .table)) (sym (refused-next c s g e)) z)
+      (λ g e. rw (refused-next c s g e) z)
 
-  -- a well-formed table stays well-formed
+  -- a well-formed table stays well-formed; that its arrays have their places is asked because a sender that joins a queue is put into one
   pub keeps-well-formed : Shaped (s .table) → WellFormed (s .table) → WellFormed (next c s .table)
   keeps-well-formed z w = accepted? c s
-      (λ e. formed-told (next c s .table) (rw (next-size c s) (w .size)) (rw (next-size c s) (accepted-kept z e .formed)))
-      (λ g e. subst (λ (after : State). WellFormed (after .table)) (sym (refused-next c s g e)) w)
+      (λ e. formed-ungrouped (next c s .table) (rw (next-size c s) (w .size)) (rw (next-size c s) (accepted-kept z e .formed)))
+      (λ g e. rw (refused-next c s g e) w)
 
   -- as the test has it, which every call computes
   pub keeps-test : Shaped (s .table) → wellFormed (s .table) ≡ true → wellFormed (next c s .table) ≡ true

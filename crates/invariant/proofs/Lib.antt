@@ -1,11 +1,5 @@
-pub mod Flags
-pub mod Own
-pub mod Facts
-pub mod Globals
-pub mod Formed
+pub mod Changed
 pub mod Changes
-pub mod Neighbours
-pub mod Receivers
 pub mod Locking
 pub mod Moves
 pub mod Endings

@@ -3,7 +3,6 @@ use mathlib.Core.Path.{_≡_, refl, sym, _∙_, subst}
 use mathlib.Core.Logic.{_≢_}
 use mathlib.Core.Bool.{true≢false, true, false, not}
 use Prim.Native.Nat.{ℕ, _≤_, _<_}
-use borrow.Author.Tests.{not-true}
 use Rattle.model.specs.declared.Thread.{Thread}
 use Rattle.model.specs.Lists.{update, occurs}
 use Rattle.model.specs.Shared.{nobody}
@@ -12,13 +11,14 @@ use Rattle.model.specs.WellFormed.{nobodyOrBelow, sendsTo}
 use Rattle.model.specs.Step.{takeLock, freeTarget, takeSender, freeSender, ownAfter, otherAfter}
 use Rattle.laws.proofs.Phases.{lock-held-in}
 use Rattle.laws.proofs.Decided.{afterAction}
-use Rattle.invariant.proofs.Flags.{cases, FlagsFit, fitsIn}
-use Rattle.invariant.proofs.Own.{phaseFits, Own}
-use Rattle.invariant.proofs.Facts.{Other, target-other}
+use Rattle.formed.proofs.Flags.{cases, FlagsFit, fitsIn}
+use Rattle.formed.proofs.Own.{phaseFits, Own}
+use Rattle.formed.proofs.Facts.{Other}
 use Rattle.invariant.proofs.Changes.{owner-below, wake-fits, own-owner, own-entering}
-use Rattle.invariant.proofs.Globals.{Owners, Chains, owners-take, owners-free, chains-take, chains-free}
-use Rattle.invariant.proofs.Formed.{owner, copiesTo, readings, of, Formed, kept, here, there, formed-changed}
-use Rattle.invariant.proofs.Neighbours.{few, copies-in, sends-in-lock, target-in-release, woken-in-unlock, queued-sends, sends-nowhere, in-phase, in-phase-if}
+use Rattle.formed.proofs.Locks.{Owners, Chains, owners-take, owners-free, chains-take, chains-free}
+use Rattle.formed.proofs.Formed.{owner, copiesTo, readings, of, Formed}
+use Rattle.formed.proofs.Neighbours.{target-in-lock, quiet-in-look, few, copies-in, target-in-release, woken-in-unlock, queued-sends, sends-nowhere, in-phase, in-phase-if}
+use Rattle.invariant.proofs.Changed.{kept, here, there, formed-changed}
 
 module _ {n : ℕ} {T : ℕ → Thread} (F : Formed n T) (x : ℕ) (xn : x < n) where
   abbrev h : Thread
@@ -28,12 +28,12 @@ module _ {n : ℕ} {T : ℕ → Thread} (F : Formed n T) (x : ℕ) (xn : x < n) 
   target = T x .op .send .target
 
   -- ---- x takes a lock that nobody owns
-  module _ (r : ℕ) (other : Other n x r) (mine : h .owner ≡ nobody) (free : T r .owner ≡ nobody) (empty : lockHeld h ≡ nobody) where
+  module _ (r : ℕ) (other : Other n x r) (unowned : h .owner ≡ nobody) (free : T r .owner ≡ nobody) (empty : lockHeld h ≡ nobody) where
     taken-owners : Owners n (update (of owner T) r x) (update (of lockHeld T) x r)
     taken-owners = owners-take n (few F) (of owner T) (of lockHeld T) x r xn (other .below) free empty (F .owners)
 
     taken-chains : Chains n (update (of owner T) r x)
-    taken-chains = chains-take n (few F) (of owner T) x r xn (other .below) mine (λ e. other .apart (sym e)) (F .chains)
+    taken-chains = chains-take n (few F) (of owner T) x r xn (other .below) unowned (λ e. other .apart (sym e)) (F .chains)
 
     taken-other : r < n → Own n r (withOwner x (T r))
     taken-other rn = own-owner (F .own r rn) x (owner-below n x xn)
@@ -41,14 +41,14 @@ module _ {n : ℕ} {T : ℕ → Thread} (F : Formed n T) (x : ℕ) (xn : x < n) 
   -- lock: of its target
   pub take-lock-keeps : phaseOf (h .phase) ≡ lock → h .owner ≡ nobody → T target .owner ≡ nobody → Formed n (afterAction takeLock T x)
   unfolding ownAfter otherAfter readings cases phaseFits
-  take-lock-keeps p mine free =
+  take-lock-keeps p unowned free =
       let w : Own n x h = F .own x xn in
-      let r : Other n x target = target-other w (sends-in-lock F x xn p) in
+      let r : Other n x target = target-in-lock F x xn p in
       let empty : lockHeld h ≡ nobody = lock-held-in h lock p in
       formed-changed F x target (ownAfter takeLock h) (otherAfter takeLock x h (T target))
       (record { owner = there (r .apart) refl; held = here refl; sends = kept refl refl; queue = kept refl refl; copies = kept refl (sym (copies-in F x xn lock p)); ready = kept refl refl })
       (record {
-        other = taken-other target r mine free empty;
+        other = taken-other target r unowned free empty;
         own = record {
           flags = in-phase F x xn lock p (λ v r s. fitsIn check (record { ipc = v .ipc; send = v .send; receiving = v .receiving; poll = true; mark = v .mark }) r s) refl;
           outcome = w .outcome;
@@ -58,30 +58,29 @@ module _ {n : ℕ} {T : ℕ → Thread} (F : Formed n T) (x : ℕ) (xn : x < n) 
           items = w .items;
         };
         queues = F .queues;
-        owners = taken-owners target r mine free empty;
-        chains = taken-chains target r mine free empty;
+        owners = taken-owners target r unowned free empty;
+        chains = taken-chains target r unowned free empty;
         copies = F .copies;
       })
 
   -- a sender that stands in x's queue is another thread, since x does not send in look
   pub queued-other : (s : ℕ) → phaseOf (h .phase) ≡ look → 1 ≤ occurs s (senders h) → Other n x s
-  unfolding cases
   queued-other s p queued =
       let (sn, sends) = queued-sends F x s xn queued in
-      let quiet : sendsTo h x ≡ false = sends-nowhere h (not-true (h .flags .send) (in-phase F x xn look p (λ v r s. not (v .send)) refl)) x in
+      let quiet : sendsTo h x ≡ false = sends-nowhere h (quiet-in-look F x xn p) x in
       record { below = sn; apart = λ e. let z : sendsTo h x ≡ true = rw e at sends in true≢false (sym z ∙ quiet) }
 
   -- look: of a queued sender
   pub take-sender-keeps : (s : ℕ) → phaseOf (h .phase) ≡ look → h .owner ≡ nobody → 1 ≤ occurs s (senders h) → T s .owner ≡ nobody → Formed n (afterAction (takeSender s) T x)
   unfolding ownAfter otherAfter readings cases
-  take-sender-keeps s p mine queued free =
+  take-sender-keeps s p unowned queued free =
       let w : Own n x h = F .own x xn in
       let r : Other n x s = queued-other s p queued in
       let empty : lockHeld h ≡ nobody = lock-held-in h look p in
       formed-changed F x s (ownAfter (takeSender s) h) (otherAfter (takeSender s) x h (T s))
       (record { owner = there (r .apart) refl; held = here refl; sends = kept refl refl; queue = kept refl refl; copies = kept refl (sym (copies-in F x xn look p)); ready = kept refl refl })
       (record {
-        other = taken-other s r mine free empty;
+        other = taken-other s r unowned free empty;
         own = record {
           flags = in-phase F x xn look p (fitsIn wake) refl;
           outcome = w .outcome;
@@ -91,8 +90,8 @@ module _ {n : ℕ} {T : ℕ → Thread} (F : Formed n T) (x : ℕ) (xn : x < n) 
           items = w .items;
         };
         queues = F .queues;
-        owners = taken-owners s r mine free empty;
-        chains = taken-chains s r mine free empty;
+        owners = taken-owners s r unowned free empty;
+        chains = taken-chains s r unowned free empty;
         copies = F .copies;
       })
 

@@ -8,13 +8,13 @@ use Rattle.model.specs.Threads.{idle, lock, check, copy, release, sleep, look, 
 use Rattle.model.specs.Step.{startCopy, toRelease, copyWord, retry, toIdle, clearPoll, ownAfter, otherAfter}
 use Rattle.laws.proofs.Phases.{lock-held-in}
 use Rattle.laws.proofs.Decided.{otherOf, afterAction}
-use Rattle.invariant.proofs.Flags.{cases, fitsIn}
-use Rattle.invariant.proofs.Own.{phaseFits, Own}
-use Rattle.invariant.proofs.Facts.{target-other}
+use Rattle.formed.proofs.Flags.{cases, fitsIn}
+use Rattle.formed.proofs.Own.{phaseFits, Own}
 use Rattle.invariant.proofs.Changes.{release-fits, copy-fits, unlock-fits, own-unpolled, own-entering}
-use Rattle.invariant.proofs.Globals.{copies-start}
-use Rattle.invariant.proofs.Formed.{owner, copiesTo, readings, of, Formed, kept, here, formed-changed}
-use Rattle.invariant.proofs.Neighbours.{number, copies-in, sends-in-check, woken-in-wake, in-phase, in-phase-if}
+use Rattle.formed.proofs.Copies.{copies-start}
+use Rattle.formed.proofs.Formed.{owner, copiesTo, readings, of, Formed}
+use Rattle.formed.proofs.Neighbours.{target-in-check, number, copies-in, woken-in-wake, in-phase, in-phase-if}
+use Rattle.invariant.proofs.Changed.{kept, here, formed-changed}
 
 module _ {n : ℕ} {T : ℕ → Thread} (F : Formed n T) (x : ℕ) (xn : x < n) where
   abbrev h : Thread
@@ -56,7 +56,7 @@ module _ {n : ℕ} {T : ℕ → Thread} (F : Formed n T) (x : ℕ) (xn : x < n) 
       (record {
         other = F .own target;
         own = own-entering w release (in-phase F x xn check p (fitsIn release) refl)
-            (release-fits n x (h .op .send) (h .copied) (h .waking) (target-other w (sends-in-check F x xn p)));
+            (release-fits n x (h .op .send) (h .copied) (h .waking) (target-in-check F x xn p));
         queues = F .queues;
         owners = F .owners;
         chains = F .chains;

@@ -1,18 +1,21 @@
 -- A new table is well-formed.
 use mathlib.Core.Path.{_≡_, refl, sym, ap, _∙_}
 use mathlib.Core.Bool.{Bool, true, false}
-use mathlib.Core.List.{[]}
+use mathlib.Core.List.{[], _∷_}
 use Prim.Native.Nat.{ℕ, suc, _≤_, _<_}
 use native.Mathlib.Omega.{arith}
 use lib.ListN.{length-replicate, getD-replicate}
-use lib.Dec.{ltb}
-use borrow.Author.Tests.{ltb-true, le-leb}
+use lib.Dec.{leb, ltb}
+use borrow.Author.Tests.{ltb-true, leb-true, le-leb, not-false}
 use Rattle.model.specs.declared.Thread.{Thread}
 use Rattle.model.specs.Lists.{implies, allOf, occurs}
 use Rattle.model.specs.Shared.{nobody}
 use Rattle.model.specs.Threads.{phaseOf, newThread, newTable, zeroThread, at, senders, lockHeld}
 use Rattle.model.specs.WellFormed.{sizeInRange, inPhase, isCode, nobodyOrBelow, numbersInRange, ipcWithRunning, bareUnlessDone, notWithItself, sendAndMarkWithIpc, pollWithSend, receivingWithPart, ipcWithoutSend, idleWithoutFlags, releaseHasTarget, receiversSendClear, sendersSendSet, copiesToReady, sendsTo, ownerOf, chain, Shaped, Each, WellFormed}
-use Rattle.model.proofs.Laws.{by, and-made}
+use Rattle.model.specs.Refusals.{unless, badSize, makeRefusal}
+use Rattle.model.specs.Promise.{madeTable}
+use Rattle.model.proofs.Laws.{by, and-left, and-right, and-made}
+use Rattle.laws.proofs.Refusals.{none-holds}
 
 -- a new table of n threads has n threads
 pub new-size : (n : ℕ) → newTable n .n ≡ n
@@ -89,3 +92,16 @@ new-well-formed n some few = let size = new-size n in record {
   sendSet = new-each n few (λ x h. sendersSendSet h) (λ x. refl);
   copies = new-each n few (copiesToReady (newTable n)) (λ x. refl);
 }
+
+-- ---- making a table
+-- a making that is not refused has tested the number of threads
+made-size : (n : ℕ) → makeRefusal n ≡ 0 → sizeInRange n ≡ true
+unfolding makeRefusal badSize
+made-size n e = not-false (sizeInRange n) (none-holds (badSize n ∷ []) refl e .0)
+
+-- a table that is made is well-formed
+pub made-well-formed : (n : ℕ) → makeRefusal n ≡ 0 → WellFormed (madeTable n)
+unfolding madeTable unless sizeInRange
+made-well-formed n e =
+    let size = made-size n e in
+    rw e (new-well-formed n (leb-true 1 n (and-left (leb 1 n) (leb n 32) size)) (leb-true n 32 (and-right (leb 1 n) (leb n 32) size)))

@@ -15,26 +15,25 @@ use Rattle.model.specs.Step.{Action, stay, takeLock, abortSend, startCopy, toRe
 use Rattle.laws.proofs.Lists.{update-own}
 use Rattle.laws.proofs.Tables.{act-at}
 use Rattle.laws.proofs.Search.{found-queued}
-use Rattle.laws.proofs.Decided.{Fits, AbortsSend, AbortsReceive, GoesOn, sending, receiving, ended, decided, own-lock-free, lock-free-read, otherOf, other-is, afterAction}
-use Rattle.invariant.proofs.Facts.{target-other}
-use Rattle.invariant.proofs.Formed.{Formed}
-use Rattle.invariant.proofs.Neighbours.{sends-in-lock, sends-in-check, sends-in-copy, target-in-release, woken-in-wake, woken-in-unlock}
+use Rattle.laws.proofs.Decided.{TestedFor, AbortsSend, AbortsReceive, GoesOn, sending, receiving, ended, decided, own-lock-free, lock-free-read, otherOf, other-is, afterAction}
+use Rattle.formed.proofs.Formed.{Formed}
+use Rattle.formed.proofs.Neighbours.{target-in-lock, target-in-check, target-in-copy, target-in-release, woken-in-wake, woken-in-unlock}
 use Rattle.invariant.proofs.Locking.{queued-other, take-lock-keeps, take-sender-keeps, release-to-sleep-keeps, release-to-look-keeps, release-to-idle-keeps, free-sender-keeps}
 use Rattle.invariant.proofs.Moves.{start-copy-keeps, to-release-keeps, copy-word-keeps, retry-keeps, to-idle-keeps, clear-poll-keeps}
 use Rattle.invariant.proofs.Endings.{abort-send-keeps, abort-receive-keeps, finish-call-keeps, finish-send-keeps}
 
 module _ (t : Table) (F : Formed (t .n) (at t)) (x : ℕ) (xn : x < t .n) where
   -- the other thread of an action is in the table, or the action leaves it as it was
-  pub other-in-table : (a : Action) → Fits t x a → (otherOf a (at t x) < t .n) ⊎ (otherAfter a x (at t x) (at t (otherOf a (at t x))) ≡ at t (otherOf a (at t x)))
+  pub other-in-table : (a : Action) → TestedFor t x a → (otherOf a (at t x) < t .n) ⊎ (otherAfter a x (at t x) (at t (otherOf a (at t x))) ≡ at t (otherOf a (at t x)))
   unfolding otherAfter
   other-in-table (stay a) f = inr refl
-  other-in-table takeLock f = inl (target-other (F .own x xn) (sends-in-lock F x xn (f .0)) .below)
-  other-in-table (abortSend c) f = inl (target-other (F .own x xn) (sends-in-check F x xn (f .0)) .below)
+  other-in-table takeLock f = inl (target-in-lock F x xn (f .0) .below)
+  other-in-table (abortSend c) f = inl (target-in-check F x xn (f .0) .below)
   other-in-table startCopy f = inr refl
   other-in-table toRelease f = inr refl
   other-in-table copyWord f = inr refl
-  other-in-table finishCall f = inl (target-other (F .own x xn) (sends-in-copy F x xn (f .0)) .below)
-  other-in-table finishSend f = inl (target-other (F .own x xn) (sends-in-copy F x xn (f .0)) .below)
+  other-in-table finishCall f = inl (target-in-copy F x xn (f .0) .below)
+  other-in-table finishSend f = inl (target-in-copy F x xn (f .0) .below)
   other-in-table (freeTarget p) f = inl (target-in-release F x xn (f .0) .below)
   other-in-table retry f = inr refl
   other-in-table toIdle f = inr refl
@@ -44,7 +43,7 @@ module _ (t : Table) (F : Formed (t .n) (at t)) (x : ℕ) (xn : x < t .n) where
   other-in-table freeSender f = inl (woken-in-unlock F x xn f .below)
 
   -- the threads after an action that was decided
-  pub act-changes : length (t .threads) ≡ 32 → (a : Action) → Fits t x a → at (act a x t) ≡ afterAction a (at t) x
+  pub act-changes : length (t .threads) ≡ 32 → (a : Action) → TestedFor t x a → at (act a x t) ≡ afterAction a (at t) x
   act-changes whole a f =
       let few = F .few in
       let i : other (at t x) ≡ otherOf a (at t x) = other-is t x a f in
@@ -58,7 +57,7 @@ module _ (t : Table) (F : Formed (t .n) (at t)) (x : ℕ) (xn : x < t .n) where
   unfolding ownAfter otherAfter
   stay-keeps a = rw (update-own (at t) (other (at t x)), update-own (at t) x) F
 
-  module _ (mine : at t x .owner ≡ nobody) where
+  module _ (unowned : at t x .owner ≡ nobody) where
     aborts-send : (c : ℤ) → AbortsSend t x c → phaseOf (at t x .phase) ≡ check → Formed (t .n) (afterAction (abortSend c) (at t) x)
     unfolding isCode
     aborts-send c (AbortsSend.cancelled e) p = abort-send-keeps F x xn sendCancelled refl refl p
@@ -66,8 +65,8 @@ module _ (t : Table) (F : Formed (t .n) (at t)) (x : ℕ) (xn : x < t .n) where
 
     aborts-receive : (c : ℤ) → AbortsReceive t x c → phaseOf (at t x .phase) ≡ look → Formed (t .n) (afterAction (abortReceive c) (at t) x)
     unfolding isCode
-    aborts-receive c (AbortsReceive.cancelled e) p = abort-receive-keeps F x xn receiveCancelled refl refl p mine
-    aborts-receive c (AbortsReceive.late e f g) p = abort-receive-keeps F x xn receiveTimeOver refl refl p mine
+    aborts-receive c (AbortsReceive.cancelled e) p = abort-receive-keeps F x xn receiveCancelled refl refl p unowned
+    aborts-receive c (AbortsReceive.late e f g) p = abort-receive-keeps F x xn receiveTimeOver refl refl p unowned
 
     goes-on : (q : Phase) → GoesOn t x q → phaseOf (at t x .phase) ≡ release → Formed (t .n) (afterAction (freeTarget q) (at t) x)
     goes-on q (sending e) p = release-to-sleep-keeps F x xn p e
@@ -75,20 +74,20 @@ module _ (t : Table) (F : Formed (t .n) (at t)) (x : ℕ) (xn : x < t .n) where
     goes-on q (ended e f) p = release-to-idle-keeps F x xn p f
 
     -- every action that was decided keeps the threads well-formed
-    action-keeps : (a : Action) → Fits t x a → Formed (t .n) (afterAction a (at t) x)
+    action-keeps : (a : Action) → TestedFor t x a → Formed (t .n) (afterAction a (at t) x)
     action-keeps (stay a) f = stay-keeps a
-    action-keeps takeLock f = take-lock-keeps F x xn (f .0) mine (f .1)
+    action-keeps takeLock f = take-lock-keeps F x xn (f .0) unowned (f .1)
     action-keeps (abortSend c) f = aborts-send c (f .1) (f .0)
     action-keeps startCopy f = start-copy-keeps F x xn (f .0) (f .2)
     action-keeps toRelease f = to-release-keeps F x xn (f .0)
     action-keeps copyWord f = copy-word-keeps F x xn (f .0) (f .1)
-    action-keeps finishCall f = finish-call-keeps F x xn (f .0) mine (f .2)
-    action-keeps finishSend f = finish-send-keeps F x xn (f .0) mine
+    action-keeps finishCall f = finish-call-keeps F x xn (f .0) unowned (f .2)
+    action-keeps finishSend f = finish-send-keeps F x xn (f .0) unowned
     action-keeps (freeTarget q) f = goes-on q (f .1) (f .0)
     action-keeps retry f = retry-keeps F x xn (f .0)
     action-keeps toIdle f = to-idle-keeps F x xn (f .0) (f .1)
     action-keeps (abortReceive c) f = aborts-receive c (f .2) (f .0)
-    action-keeps (takeSender s) f = take-sender-keeps F x xn s (f .0) mine (found-queued (at t x) s (f .1 .finds)) (f .1 .free)
+    action-keeps (takeSender s) f = take-sender-keeps F x xn s (f .0) unowned (found-queued (at t x) s (f .1 .finds)) (f .1 .free)
     action-keeps clearPoll f = clear-poll-keeps F x xn f
     action-keeps freeSender f = free-sender-keeps F x xn f
 

@@ -112,15 +112,15 @@ module _ (x : ℕ) (o : Operation) (t : Table) where
   -- what holds in each of the three cases holds of a begin
   pub begin-cases {ℓ} : (P : Table → Type ℓ)
       → (targetBeyond (t .n) o ≡ true → P (edit x (ended (codeOnly noReceiver)) t))
-      → (o .send .present ≡ true → o .send .target < t .n → P (edit x (begun o lock) (edit (o .send .target) (joined x) t)))
-      → (o .send .present ≡ false → P (edit x (begun o look) t))
+      → (targetBeyond (t .n) o ≡ false → o .send .present ≡ true → o .send .target < t .n → P (edit x (begun o lock) (edit (o .send .target) (joined x) t)))
+      → (targetBeyond (t .n) o ≡ false → o .send .present ≡ false → P (edit x (begun o look) t))
       → P (beginTable x o t)
   begin-cases P far near receives =
       by (targetBeyond (t .n) o)
       (λ e. subst P (sym (target-beyond x o t e)) (far e))
       (λ e. by (o .send .present)
-      (λ sends. subst P (sym (begins-to-send e sends)) (near sends (target-near (t .n) o sends e)))
-      (λ alone. subst P (sym (begins-to-receive alone)) (receives alone)))
+      (λ sends. subst P (sym (begins-to-send e sends)) (near e sends (target-near (t .n) o sends e)))
+      (λ alone. subst P (sym (begins-to-receive alone)) (receives e alone)))
 
 -- ---- cancel
 module _ (x : ℕ) (t : Table) where

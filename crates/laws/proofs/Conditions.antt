@@ -9,8 +9,8 @@ use borrow.Author.Tests.{eqb-true, eq-eqb, lt-ltb}
 use Rattle.model.specs.Answers.{Said, refused, replied}
 use Rattle.model.specs.Calls.{Call, begin, step, cancel, tick}
 use Rattle.model.specs.Shared.{View}
-use Rattle.model.specs.Atomic.{Run, nothing, sending, receiving, Machine, Event, begins, cancels, ticks, rendezvous, aborts, runs, QueuedAt, acceptsIn, NoneAcceptable, CanAbort, Can, reply}
-use Rattle.model.specs.Linearization.{Entry, Allowed, alike, AtCall}
+use Rattle.model.specs.Atomic.{Run, nothing, sending, receiving, Machine, Event, begins, cancels, ticks, rendezvous, aborts, runs, QueuedAt, acceptsIn, NoneAcceptable, CanAbort, Can}
+use Rattle.model.specs.Linearization.{Entry, Allowed, AtCall}
 use Rattle.model.proofs.Replay.{sendsNowTo, noneAcceptable, abortTest, canTest, allowedTest, sameWords, sameView, replyNumber, answerTest}
 use Rattle.laws.proofs.Codes.{code-itself}
 use Rattle.model.proofs.Laws.{implies-made, _and_, all-of-made, all-below-made}

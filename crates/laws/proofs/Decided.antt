@@ -84,30 +84,30 @@ module _ (t : Table) (x : ℕ) where
     pub free : at t s .owner ≡ nobody
 
   -- for each action the tests that led to it; a step that stays changes nothing, and nothing is asked of it
-  abbrev pub Fits : Action → Type 0
-  Fits (stay a) = Unit {0}
-  Fits takeLock = In lock × (at t target .owner ≡ nobody)
-  Fits (abortSend c) = In check × AbortsSend c
-  Fits startCopy = In check × (at t x .flags .mark ≡ false) × (ready (at t target) x ≡ true)
-  Fits toRelease = In check × (at t x .flags .mark ≡ false) × (ready (at t target) x ≡ false) × (at t x .left ≢ 0)
-  Fits copyWord = In copy × (at t x .copied < at t x .op .send .count)
-  Fits finishCall = In copy × (at t x .op .send .count ≤ at t x .copied) × (hasReceive (at t x .op .receive) ≡ true)
-  Fits finishSend = In copy × (at t x .op .send .count ≤ at t x .copied) × (hasReceive (at t x .op .receive) ≡ false)
-  Fits (freeTarget p) = In release × GoesOn p
-  Fits retry = In sleep × ((not (at t x .flags .poll) || at t x .flags .mark || eqb (at t x .left) 0) ≡ true)
-  Fits toIdle = In look × (at t x .flags .ipc ≡ false)
-  Fits (abortReceive c) = In look × (at t x .flags .ipc ≡ true) × AbortsReceive c
-  Fits (takeSender s) = In look × TakesSender s
-  Fits clearPoll = In wake
-  Fits freeSender = In unlock
+  abbrev pub TestedFor : Action → Type 0
+  TestedFor (stay a) = Unit {0}
+  TestedFor takeLock = In lock × (at t target .owner ≡ nobody)
+  TestedFor (abortSend c) = In check × AbortsSend c
+  TestedFor startCopy = In check × (at t x .flags .mark ≡ false) × (ready (at t target) x ≡ true)
+  TestedFor toRelease = In check × (at t x .flags .mark ≡ false) × (ready (at t target) x ≡ false) × (at t x .left ≢ 0)
+  TestedFor copyWord = In copy × (at t x .copied < at t x .op .send .count)
+  TestedFor finishCall = In copy × (at t x .op .send .count ≤ at t x .copied) × (hasReceive (at t x .op .receive) ≡ true)
+  TestedFor finishSend = In copy × (at t x .op .send .count ≤ at t x .copied) × (hasReceive (at t x .op .receive) ≡ false)
+  TestedFor (freeTarget p) = In release × GoesOn p
+  TestedFor retry = In sleep × ((not (at t x .flags .poll) || at t x .flags .mark || eqb (at t x .left) 0) ≡ true)
+  TestedFor toIdle = In look × (at t x .flags .ipc ≡ false)
+  TestedFor (abortReceive c) = In look × (at t x .flags .ipc ≡ true) × AbortsReceive c
+  TestedFor (takeSender s) = In look × TakesSender s
+  TestedFor clearPoll = In wake
+  TestedFor freeSender = In unlock
 
   -- a choice by a test has been tested for what either side has
-  chosen : (b : Bool) (a c : Action) → (b ≡ true → Fits a) → (b ≡ false → Fits c) → Fits (cond b a c)
+  chosen : (b : Bool) (a c : Action) → (b ≡ true → TestedFor a) → (b ≡ false → TestedFor c) → TestedFor (cond b a c)
   chosen true a c f g = f refl
   chosen false a c f g = g refl
 
   -- what look has tested, with what the search finds
-  looked : In look → at t x .flags .ipc ≡ true → at t x .flags .mark ≡ false → (o : Option ℕ) → findSender (at t x) ≡ o → Fits (lookAt (at t x) (at t (Option·getD o nobody)) o)
+  looked : In look → at t x .flags .ipc ≡ true → at t x .flags .mark ≡ false → (o : Option ℕ) → findSender (at t x) ≡ o → TestedFor (lookAt (at t x) (at t (Option·getD o nobody)) o)
   unfolding lookAt
   looked p runs unmarked (some s) e =
       chosen (at t s .flags .poll) (cond (lockFree (at t s)) (takeSender s) _) _
@@ -117,7 +117,7 @@ module _ (t : Table) (x : ℕ) where
       chosen (eqb (at t x .left) 0) (abortReceive receiveTimeOver) _ (λ i. (p, runs, AbortsReceive.late unmarked e (eqb-true (at t x .left) 0 i))) (λ i. tt)
 
   -- what each phase has tested
-  decided-in : (p : Phase) → In p → Fits (decideIn p x (at t x) (at t (otherIn p (at t x))))
+  decided-in : (p : Phase) → In p → TestedFor (decideIn p x (at t x) (at t (otherIn p (at t x))))
   unfolding decideIn
   decided-in idle p = tt
   decided-in lock p = chosen (lockFree (at t target)) takeLock _ (λ i. (p, lock-free-read (at t target) i)) (λ i. tt)
@@ -142,7 +142,7 @@ module _ (t : Table) (x : ℕ) where
   decided-in unknown p = tt
 
   -- a step has tested what its action says
-  pub decided : Fits (decide t x)
+  pub decided : TestedFor (decide t x)
   unfolding decide other
   decided = chosen (lockFree (at t x)) (decideIn (phaseOf (at t x .phase)) x (at t x) _) (stay held) (λ i. decided-in (phaseOf (at t x .phase)) refl) (λ i. tt)
 
@@ -152,7 +152,7 @@ module _ (t : Table) (x : ℕ) where
   own-lock-free = by (lockFree (at t x)) inr (λ i. inl (rw i refl))
 
   -- the other thread of a step is the one that its action tells
-  pub other-is : (a : Action) → Fits a → other (at t x) ≡ otherOf a (at t x)
+  pub other-is : (a : Action) → TestedFor a → other (at t x) ≡ otherOf a (at t x)
   other-is (stay a) f = refl
   other-is takeLock f = other-in (at t x) lock (f .0)
   other-is (abortSend c) f = other-in (at t x) check (f .0)

@@ -1,5 +1,5 @@
 -- What it is for a thread to be ready for a sender.
-use mathlib.Core.Path.{_≡_, refl}
+use mathlib.Core.Path.{fun-ext, _≡_, refl}
 use mathlib.Core.Bool.{Bool, true, false, not, _&&_}
 use Prim.Native.Nat.{ℕ}
 use borrow.Author.Tests.{not-true}
@@ -39,6 +39,10 @@ not-ready h e s = none (h .flags .ipc) (h .flags .receiving) (not (h .flags .sen
     none true true c d e = rw e refl
     none true false c d e = refl
     none false b c d e = refl
+
+-- the same of the whole function
+pub never-ready : (h : Thread) → (h .flags .ipc && h .flags .receiving && not (h .flags .send)) ≡ false → _≡_ {A = ℕ → Bool} (ready h) (λ s. false)
+never-ready h e = fun-ext (not-ready h e)
 
 -- ---- the atomic machine
 -- thread r of the atomic machine is ready for s

@@ -14,10 +14,10 @@ use Rattle.model.specs.Step.{Action, abortSend, abortReceive, ownAfter, otherAf
 use Rattle.model.specs.Atomic.{receiving, Machine, aborts, ending, play, CanAbort, cancelledSending, lateSending, cancelledReceiving, lateReceiving}
 use Rattle.laws.proofs.Search.{none-acceptable}
 use Rattle.laws.proofs.Decided.{otherOf, afterAction}
-use Rattle.invariant.proofs.Flags.{cases, isOneOf, told}
-use Rattle.invariant.proofs.Facts.{target-other}
-use Rattle.invariant.proofs.Formed.{copiesTo}
-use Rattle.invariant.proofs.Neighbours.{few, number, sends-in-check, sends-queued}
+use Rattle.formed.proofs.Flags.{cases, isOneOf, told}
+use Rattle.formed.proofs.Facts.{target-other}
+use Rattle.formed.proofs.Formed.{copiesTo}
+use Rattle.formed.proofs.Neighbours.{few, number, sends-in-check, sends-queued}
 use Rattle.simulation.proofs.Abstraction.{seems, CopiedBy, copies-nowhere}
 use Rattle.simulation.proofs.Leads.{Simulates, Leads, same-store, own-leads}
 use Rattle.simulation.proofs.Conditions.{mark-alike, left-alike, sends-alike, receives-alike, ready-alike, queued-alike}

@@ -14,10 +14,10 @@ use Rattle.model.specs.Step.{wordCopied}
 use Rattle.model.specs.Atomic.{Run, nothing, sending, receiving, runs, AtomicThread}
 use Rattle.model.proofs.Laws.{by, same?, implies-read}
 use Rattle.laws.proofs.Store.{wordPlace, word-at, word-copied-here, word-copied-elsewhere}
-use Rattle.invariant.proofs.Flags.{cases, isOneOf, told-any}
-use Rattle.invariant.proofs.Own.{Own}
-use Rattle.invariant.proofs.Facts.{count-small, copied-small}
-use Rattle.invariant.proofs.Formed.{copiesTo}
+use Rattle.formed.proofs.Flags.{cases, isOneOf, told-any}
+use Rattle.formed.proofs.Own.{Own}
+use Rattle.formed.proofs.Facts.{count-small, copied-small}
+use Rattle.formed.proofs.Formed.{copiesTo}
 
 -- what runs in a thread, by its `ipc`, its `send` and its operation
 unfoldable pub runOf : Bool → Bool → Operation → Run

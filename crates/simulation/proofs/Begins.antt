@@ -22,9 +22,9 @@ use Rattle.laws.proofs.Store.{words-zeroed-other}
 use Rattle.laws.proofs.Decided.{lock-free-read}
 use Rattle.laws.proofs.Refusals.{AcceptedBegin}
 use Rattle.laws.proofs.Calls.{target-beyond, begins-to-send, begins-to-receive}
-use Rattle.invariant.proofs.Flags.{cases, isOneOf, told-any-if}
-use Rattle.invariant.proofs.Formed.{copiesTo}
-use Rattle.invariant.proofs.Neighbours.{few, no-copier}
+use Rattle.formed.proofs.Flags.{cases, isOneOf, told-any-if}
+use Rattle.formed.proofs.Formed.{copiesTo}
+use Rattle.formed.proofs.Neighbours.{few, no-copier}
 use Rattle.invariant.proofs.Keeps.{target-near}
 use Rattle.simulation.proofs.Abstraction.{seems, copies-nowhere, copied-kept}
 use Rattle.simulation.proofs.Leads.{Simulates, Leads, OthersKept, own-leads, alone-leads}

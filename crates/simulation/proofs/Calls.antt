@@ -22,7 +22,7 @@ use Rattle.laws.proofs.Lists.{update-own}
 use Rattle.laws.proofs.Tables.{edit-at, below-at}
 use Rattle.laws.proofs.Refusals.{accepted-begin, accepted-step, accepted-cancel}
 use Rattle.laws.proofs.Calls.{cancel-marks, cancel-nothing}
-use Rattle.invariant.proofs.Formed.{copiesTo}
+use Rattle.formed.proofs.Formed.{copiesTo}
 use Rattle.simulation.proofs.Abstraction.{runs-with-ipc, seems, CopiedBy}
 use Rattle.simulation.proofs.Leads.{Simulates, Leads, same-store, alone-leads}
 use Rattle.simulation.proofs.Conditions.{runs-alike}

@@ -11,9 +11,9 @@ use Rattle.model.specs.Shared.{accepts}
 use Rattle.model.specs.Threads.{ready}
 use Rattle.model.specs.WellFormed.{sendsTo}
 use Rattle.model.specs.Atomic.{nothing, sending, receiving, runs, AtomicThread, Machine, QueuedAt, acceptsIn, isReceiving, readyFor}
-use Rattle.invariant.proofs.Flags.{cases, told-any}
-use Rattle.invariant.proofs.Facts.{sends-runs}
-use Rattle.invariant.proofs.Neighbours.{sends-to}
+use Rattle.formed.proofs.Flags.{cases, told-any}
+use Rattle.formed.proofs.Facts.{sends-runs}
+use Rattle.formed.proofs.Neighbours.{sends-to}
 use Rattle.simulation.proofs.Abstraction.{runOf, runs-with-ipc, seems}
 use Rattle.simulation.proofs.Leads.{Simulates}
 

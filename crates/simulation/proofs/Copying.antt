@@ -12,9 +12,9 @@ use Rattle.model.specs.Atomic.{Machine}
 use Rattle.model.proofs.Laws.{same?}
 use Rattle.laws.proofs.Store.{words-copied-other}
 use Rattle.laws.proofs.Decided.{afterAction}
-use Rattle.invariant.proofs.Formed.{copiesTo}
-use Rattle.invariant.proofs.Neighbours.{few}
-use Rattle.invariant.proofs.Receivers.{copies-to-target, receiver-count, message-short, copies-alone}
+use Rattle.formed.proofs.Formed.{copiesTo}
+use Rattle.formed.proofs.Neighbours.{few}
+use Rattle.formed.proofs.Receivers.{copies-to-target, receiver-count, message-short, copies-alone}
 use Rattle.simulation.proofs.Abstraction.{seems, copied-kept, copied-more}
 use Rattle.simulation.proofs.Leads.{Simulates, Leads, OthersKept, none-leads}
 

@@ -7,8 +7,8 @@ use lib.ListN.{length}
 use Rattle.model.specs.Shared.{nobody}
 use Rattle.model.specs.Threads.{newThread, newTable, at}
 use Rattle.model.specs.Atomic.{firstMachine}
-use Rattle.invariant.proofs.Flags.{isOneOf}
-use Rattle.invariant.proofs.Formed.{copiesTo, Formed, formed-read}
+use Rattle.formed.proofs.Flags.{isOneOf}
+use Rattle.formed.proofs.Formed.{copiesTo, Formed, formed-grouped}
 use Rattle.invariant.proofs.New.{new-size, new-at, new-shaped, new-well-formed}
 use Rattle.simulation.proofs.Abstraction.{seems, Copied, copies-nowhere}
 use Rattle.simulation.proofs.Leads.{Like, Simulates}
@@ -31,7 +31,7 @@ module _ (n : ℕ) (small : n ≤ 32) (store : List ℕ) where
 -- a new table of 1 to 32 threads and a store of their words stand for it
 pub first-simulates : (n : ℕ) → 1 ≤ n → n ≤ 32 → (store : List ℕ) → length store ≡ 8 * n → Simulates n firstMachine (at (newTable n)) store
 first-simulates n some small store fit = record {
-  formed = subst (λ (k : ℕ). Formed k (at (newTable n))) (new-size n) (formed-read (newTable n) (new-well-formed n some small) (new-shaped n small));
+  formed = subst (λ (k : ℕ). Formed k (at (newTable n))) (new-size n) (formed-grouped (newTable n) (new-well-formed n some small) (new-shaped n small));
   fit = fit;
   like = first-like n small store;
   copied = first-copied n small store;

@@ -12,7 +12,7 @@ use Rattle.model.specs.Atomic.{AtomicThread, Machine}
 use Rattle.model.specs.Linearization.{Entry, playEntry, Allowed}
 use Rattle.model.proofs.Laws.{same?}
 use Rattle.laws.proofs.Lists.{update-same, update-other, update-own}
-use Rattle.invariant.proofs.Formed.{Formed}
+use Rattle.formed.proofs.Formed.{Formed}
 use Rattle.simulation.proofs.Abstraction.{seems, CopiedBy, Copied}
 
 -- each thread of the table stands for its thread of the atomic machine p

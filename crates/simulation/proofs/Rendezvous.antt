@@ -14,11 +14,11 @@ use Rattle.model.specs.Step.{finishCall, finishSend, received, ownAfter, otherA
 use Rattle.model.specs.Atomic.{sending, Machine, rendezvous, receiverAfter, senderAfter, play, Can}
 use Rattle.laws.proofs.Store.{wordPlace, words-are-message}
 use Rattle.laws.proofs.Decided.{afterAction}
-use Rattle.invariant.proofs.Flags.{isOneOf}
-use Rattle.invariant.proofs.Facts.{sends-runs}
-use Rattle.invariant.proofs.Formed.{copiesTo}
-use Rattle.invariant.proofs.Neighbours.{few, sends-in-copy}
-use Rattle.invariant.proofs.Receivers.{receiver-other, copies-to-target, receiver-ready, message-short}
+use Rattle.formed.proofs.Flags.{isOneOf}
+use Rattle.formed.proofs.Facts.{sends-runs}
+use Rattle.formed.proofs.Formed.{copiesTo}
+use Rattle.formed.proofs.Neighbours.{few, sends-in-copy}
+use Rattle.formed.proofs.Receivers.{receiver-other, copies-to-target, receiver-ready, message-short}
 use Rattle.simulation.proofs.Abstraction.{seems, copies-nowhere}
 use Rattle.simulation.proofs.Leads.{Simulates, Leads, same-store, both-lead}
 use Rattle.simulation.proofs.Conditions.{sends-alike, ready-alike}

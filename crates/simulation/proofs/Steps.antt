@@ -13,10 +13,10 @@ use Rattle.model.specs.Threads.{Phase, check, look, phaseOf, at}
 use Rattle.model.specs.Step.{Action, stay, takeLock, abortSend, startCopy, toRelease, copyWord, finishCall, finishSend, freeTarget, retry, toIdle, abortReceive, takeSender, clearPoll, freeSender, decide, ownAfter, otherAfter, act, storeAfter}
 use Rattle.model.specs.Atomic.{Machine, CanAbort}
 use Rattle.model.specs.Linearized.{eventOf}
-use Rattle.laws.proofs.Decided.{Fits, AbortsSend, AbortsReceive, GoesOn, sending, receiving, ended, decided, otherOf, afterAction}
-use Rattle.invariant.proofs.Flags.{isOneOf}
-use Rattle.invariant.proofs.Formed.{copiesTo}
-use Rattle.invariant.proofs.Neighbours.{few}
+use Rattle.laws.proofs.Decided.{TestedFor, AbortsSend, AbortsReceive, GoesOn, sending, receiving, ended, decided, otherOf, afterAction}
+use Rattle.formed.proofs.Flags.{isOneOf}
+use Rattle.formed.proofs.Formed.{copiesTo}
+use Rattle.formed.proofs.Neighbours.{few}
 use Rattle.invariant.proofs.Steps.{act-changes}
 use Rattle.simulation.proofs.Abstraction.{seems, CopiedBy, copies-nowhere, copied-nothing}
 use Rattle.simulation.proofs.Leads.{Simulates, Leads, same-store, none-leads}
@@ -56,7 +56,7 @@ module _ (t : Table) {p : Machine} {store : List ℕ} (S : Simulates (t .n) p (a
   may-abort-receive c (AbortsReceive.late e f l) q i = receive-late S x xn q i f l
 
   -- every action that was decided is its event, or none
-  action-leads : (a : Action) → Fits t x a → Leads (t .n) (eventOf a x h) p (afterAction a (at t) x) (storeAfter a h store)
+  action-leads : (a : Action) → TestedFor t x a → Leads (t .n) (eventOf a x h) p (afterAction a (at t) x) (storeAfter a h store)
   unfolding ownAfter otherAfter eventOf storeAfter seems copiesTo isOneOf
   action-leads (stay a) f = unseen (stay a) refl refl (λ k. k) (S .copied x xn)
   action-leads takeLock f = unseen takeLock refl refl (λ k. k) (nowhere takeLock refl)

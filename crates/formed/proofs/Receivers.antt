@@ -12,11 +12,11 @@ use Rattle.model.specs.Threads.{copy, phaseOf, ready}
 use Rattle.model.proofs.Laws.{and-right, alike-read, all-of-read}
 use Rattle.laws.proofs.Ready.{ready-read}
 use Rattle.laws.proofs.Codes.{code-is}
-use Rattle.invariant.proofs.Flags.{isOneOf}
-use Rattle.invariant.proofs.Own.{outcomeFits}
-use Rattle.invariant.proofs.Facts.{Other, target-other, count-small}
-use Rattle.invariant.proofs.Formed.{Formed, copiesTo}
-use Rattle.invariant.proofs.Neighbours.{copies-in, copier, sends-in-copy}
+use Rattle.formed.proofs.Flags.{isOneOf}
+use Rattle.formed.proofs.Own.{outcomeFits}
+use Rattle.formed.proofs.Facts.{Other, target-other, count-small}
+use Rattle.formed.proofs.Formed.{Formed, copiesTo}
+use Rattle.formed.proofs.Neighbours.{copies-in, copier, sends-in-copy}
 
 -- the count of a thread that runs is 0
 running-count : (n : ℕ) (u : Outcome) → outcomeFits n true u ≡ true → u .count ≡ 0

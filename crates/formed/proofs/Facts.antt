@@ -11,8 +11,8 @@ use Rattle.model.specs.Shared.{wordLimit}
 use Rattle.model.specs.Threads.{copy, release, wake, unlock}
 use Rattle.model.specs.WellFormed.{sendInRange}
 use Rattle.model.proofs.Laws.{and-left, and-right, implies-read, _and_, all-of-read}
-use Rattle.invariant.proofs.Flags.{cases, isOneOf, told-any}
-use Rattle.invariant.proofs.Own.{operationFits, phaseFits, queueFits, Own}
+use Rattle.formed.proofs.Flags.{cases, isOneOf, told-any}
+use Rattle.formed.proofs.Own.{operationFits, phaseFits, queueFits, Own}
 
 -- a thread of the table, and not x
 pub record Other (n x r : ℕ) : Type 0 where

@@ -1,21 +1,16 @@
--- The clauses on queues, locks, chains and copies, over functions of thread numbers: what a change at one or two places leaves of each.
+-- The clauses on locks and on chains of lock owners, over functions of thread numbers: what taking a lock and freeing it leave of them.
 use mathlib.Core.Path.{_≡_, refl, sym, ap, _∙_, subst, fun-ext}
 use mathlib.Core.Logic.{_≢_, _↔_, _⊎_, inl, inr, ⊎-elim}
-use mathlib.Core.Bool.{Bool, true, false, cond, _&&_}
-use mathlib.Core.List.{List, [], _∷_, _++_}
-use Prim.Native.Nat.{ℕ, zero, suc, _+_, _≤_, _<_}
+use mathlib.Core.Bool.{cond}
+use Prim.Native.Nat.{ℕ, zero, suc, _≤_, _<_}
 use native.Mathlib.Omega.{arith}
-use lib.Dec.{eqb, ltb}
-use borrow.Author.Tests.{eq-eqb, ne-eqb, lt-ltb, le-ltb}
-use Rattle.model.specs.Lists.{bit, occurs, without, update}
+use lib.Dec.{ltb}
+use borrow.Author.Tests.{lt-ltb, le-ltb}
+use Rattle.model.specs.Lists.{update}
 use Rattle.model.specs.Shared.{nobody}
 use Rattle.model.specs.WellFormed.{chain}
-use Rattle.model.proofs.Laws.{same?, occurs-append, occurs-same, occurs-other}
+use Rattle.model.proofs.Laws.{same?}
 use Rattle.laws.proofs.Lists.{update-same, update-other}
-
--- queue r, which is `queue r`, holds once each exactly the threads that send to r
-abbrev pub Queues : ℕ → (ℕ → ℕ → Bool) → (ℕ → List ℕ) → Type 0
-Queues n sends queue = (r : ℕ) → r < n → (s : ℕ) → occurs s (queue r) ≡ bit (ltb s n && sends s r)
 
 -- a lock's owner is exactly the thread that holds it
 abbrev pub Owners : ℕ → (ℕ → ℕ) → (ℕ → ℕ) → Type 0
@@ -29,11 +24,6 @@ within n owner r = cond (ltb r n) (owner r) nobody
 abbrev pub Chains : ℕ → (ℕ → ℕ) → Type 0
 Chains n owner = (r : ℕ) → r < n → (k : ℕ) → chain (within n owner) (suc k) r ≢ r
 
--- the thread to which x copies is ready for it
-abbrev pub Copies : ℕ → (ℕ → ℕ) → (ℕ → ℕ → Bool) → Type 0
-Copies n copiesTo ready = (x : ℕ) → x < n → copiesTo x < n → ready (copiesTo x) x ≡ true
-
--- ---- locks
 module _ (n : ℕ) (few : n ≤ nobody) (owner holds : ℕ → ℕ) where
   -- x, which holds no lock, takes the lock of r, which nobody owns
   pub owners-take : (x r : ℕ) → x < n → r < n → owner r ≡ nobody → holds x ≡ nobody → Owners n owner holds → Owners n (update owner r x) (update holds x r)
@@ -124,54 +114,3 @@ module _ (n : ℕ) (few : n ≤ nobody) (owner : ℕ → ℕ) where
   pub not-own-owner : Chains n owner → (r : ℕ) → r < n → owner r ≢ r
   unfolding chain
   not-own-owner before r rn e = before r rn 0 (within-in r rn ∙ e)
-
--- ---- queues
-module _ (n : ℕ) (sends : ℕ → ℕ → Bool) (queue : ℕ → List ℕ) where
-  -- x, which sends to nobody, sends to r and joins its queue
-  pub queues-join : (x r : ℕ) (now : ℕ → Bool) (q : List ℕ) → x < n → r < n → ((u : ℕ) → sends x u ≡ false) → ((u : ℕ) → now u ≡ eqb r u) → q ≡ queue r ++ (x ∷ [])
-      → Queues n sends queue → Queues n (update sends x now) (update queue r q)
-  unfolding occurs
-  queues-join x r now q xn rn silent to made before u un s =
-      same? u r
-      (λ e. rw (e, update-same, made, occurs-append) (rw (before r rn s) (one s)))
-      (λ d. rw (update-other queue r q u d, before u un s) (others u d s))
-    where
-      one : (s : ℕ) → bit (ltb s n && sends s r) + (bit (eqb x s) + 0) ≡ bit (ltb s n && update sends x now s r)
-      one s = same? s x
-          (λ e. rw (e, lt-ltb x n xn, update-same, eq-eqb x x refl, to r, eq-eqb r r refl, silent r) refl)
-          (λ d. rw (update-other sends x now s d, ne-eqb x s (λ i. d (sym i))) (omega arith))
-
-      others : (u : ℕ) → u ≢ r → (s : ℕ) → bit (ltb s n && sends s u) ≡ bit (ltb s n && update sends x now s u)
-      others u d s = same? s x
-          (λ e. rw (e, update-same, to u, silent u, ne-eqb r u (λ i. d (sym i))) refl)
-          (λ k. rw (update-other sends x now s k) refl)
-
-  -- x, which sends to r, sends to nobody and leaves its queue
-  pub queues-leave : (x r : ℕ) (now : ℕ → Bool) (q : List ℕ) → x < n → r < n → ((u : ℕ) → sends x u ≡ eqb r u) → ((u : ℕ) → now u ≡ false) → q ≡ without x (queue r)
-      → Queues n sends queue → Queues n (update sends x now) (update queue r q)
-  queues-leave x r now q xn rn to silent made before u un s =
-      same? u r
-      (λ e. rw (e, update-same, made) (same? s x
-      (λ i. rw (i, occurs-same, before r rn x, lt-ltb x n xn, update-same, to r, silent r, eq-eqb r r refl) refl)
-      (λ d. rw (occurs-other s x (queue r) (λ i. d (sym i)), before r rn s, update-other sends x now s d) refl)))
-      (λ d. rw (update-other queue r q u d, before u un s) (same? s x
-      (λ i. rw (i, update-same, to u, silent u, ne-eqb r u (λ j. d (sym j))) refl)
-      (λ k. rw (update-other sends x now s k) refl)))
-
--- ---- copies
-module _ (n : ℕ) (copiesTo : ℕ → ℕ) (ready : ℕ → ℕ → Bool) where
-  -- x starts to copy to a thread that is ready for it
-  pub copies-start : (x r : ℕ) → ready r x ≡ true → Copies n copiesTo ready → Copies n (update copiesTo x r) ready
-  copies-start x r now before y yn = same? y x
-      (λ e. rw (e, update-same) (λ l. now))
-      (λ d. rw (update-other copiesTo x r y d) (before y yn))
-
-  -- x copies to nobody
-  pub copies-end : (x : ℕ) → n ≤ nobody → Copies n copiesTo ready → Copies n (update copiesTo x nobody) ready
-  copies-end x few before y yn = same? y x
-      (λ e. rw (e, update-same) (λ l. absurd (omega arith)))
-      (λ d. rw (update-other copiesTo x nobody y d) (before y yn))
-
-  -- a thread to which nobody copies may be ready or not
-  pub copies-free : (r : ℕ) (now : ℕ → Bool) → ((y : ℕ) → y < n → copiesTo y ≢ r) → Copies n copiesTo ready → Copies n copiesTo (update ready r now)
-  copies-free r now alone before y yn l = rw (update-other ready r now (copiesTo y) (alone y yn)) (before y yn l)

@@ -1,25 +1,25 @@
 -- What well-formed threads tell of one another: who holds a lock, who copies to whom, who waits in a queue.
-use mathlib.Core.Path.{_≡_, refl, sym, ap, _∙_}
+use mathlib.Core.Path.{fun-ext, _≡_, refl, sym, ap, _∙_}
 use mathlib.Core.Logic.{_≢_}
-use mathlib.Core.Bool.{true, false, cond, _&&_}
+use mathlib.Core.Bool.{Bool, not, true, false, cond, _&&_}
 use mathlib.Core.List.{[], _∷_}
 use Prim.Native.Nat.{ℕ, _+_, _≤_, _<_}
 use native.Mathlib.Omega.{arith}
 use lib.Dec.{eqb, ltb}
-use borrow.Author.Tests.{eq-eqb, ne-eqb, ltb-true, lt-ltb, le-ltb}
+use borrow.Author.Tests.{not-true, eq-eqb, ne-eqb, ltb-true, lt-ltb, le-ltb}
 use Rattle.model.specs.declared.Thread.{Thread}
 use Rattle.model.specs.Lists.{bit, occurs, implies}
 use Rattle.model.specs.Shared.{nobody, hasReceive}
-use Rattle.model.specs.Threads.{Phase, lock, check, copy, release, wake, unlock, phaseOf, phaseNumber, senders, lockHeldIn}
+use Rattle.model.specs.Threads.{idle, look, Phase, lock, check, copy, release, wake, unlock, phaseOf, phaseNumber, senders, lockHeldIn}
 use Rattle.model.specs.WellFormed.{sendsTo}
 use Rattle.model.proofs.Laws.{by, same?, and-left, and-right, few-enough}
 use Rattle.laws.proofs.Lists.{bit-small}
 use Rattle.laws.proofs.Phases.{phase-number, lock-held-in}
 use Rattle.laws.proofs.Queues.{senders-length}
-use Rattle.invariant.proofs.Flags.{cases, Implied, isOneOf, told, phase-small, FlagTest, told-if}
-use Rattle.invariant.proofs.Facts.{Other, target-other, queue-small, target-below, woken-below}
-use Rattle.invariant.proofs.Globals.{not-own-owner}
-use Rattle.invariant.proofs.Formed.{Formed, copiesTo}
+use Rattle.formed.proofs.Flags.{cases, Implied, isOneOf, told, phase-small, FlagTest, told-if}
+use Rattle.formed.proofs.Facts.{Other, target-other, queue-small, target-below, woken-below}
+use Rattle.formed.proofs.Locks.{not-own-owner}
+use Rattle.formed.proofs.Formed.{Formed, copiesTo}
 
 -- a thread that sends, to whom it sends
 pub sends-to : (h : Thread) → h .flags .send ≡ true → (u : ℕ) → sendsTo h u ≡ eqb (h .op .send .target) u
@@ -30,6 +30,10 @@ sends-to h e u = rw e refl
 pub sends-nowhere : (h : Thread) → h .flags .send ≡ false → (u : ℕ) → sendsTo h u ≡ false
 unfolding sendsTo
 sends-nowhere h e u = rw e refl
+
+-- the same of the whole function
+pub silent : (h : Thread) → h .flags .send ≡ false → _≡_ {A = ℕ → Bool} (sendsTo h) (λ u. false)
+silent h e = fun-ext (sends-nowhere h e)
 
 module _ {n : ℕ} {T : ℕ → Thread} (F : Formed n T) where
   -- 255 is no thread of the table
@@ -79,7 +83,29 @@ module _ {n : ℕ} {T : ℕ → Thread} (F : Formed n T) where
     unfolding cases
     sends-in-copy e = in-phase copy e (λ v r s. v .send) refl
 
-    -- in release it holds the lock of its target
+    -- in look it does not send
+    pub quiet-in-look : phaseOf (T x .phase) ≡ look → T x .flags .send ≡ false
+    unfolding cases
+    quiet-in-look e = not-true _ (in-phase look e (λ v r s. not (v .send)) refl)
+
+    -- nor in idle
+    pub quiet-in-idle : phaseOf (T x .phase) ≡ idle → T x .flags .send ≡ false
+    unfolding cases
+    quiet-in-idle e = not-true _ (in-phase idle e (λ v r s. not (v .send)) refl)
+
+    -- in lock its target is another thread of the table
+    pub target-in-lock : phaseOf (T x .phase) ≡ lock → Other n x (T x .op .send .target)
+    target-in-lock e = target-other (F .own x xn) (sends-in-lock e)
+
+    -- in check
+    pub target-in-check : phaseOf (T x .phase) ≡ check → Other n x (T x .op .send .target)
+    target-in-check e = target-other (F .own x xn) (sends-in-check e)
+
+    -- in copy
+    pub target-in-copy : phaseOf (T x .phase) ≡ copy → Other n x (T x .op .send .target)
+    target-in-copy e = target-other (F .own x xn) (sends-in-copy e)
+
+    -- and in release, where it holds the lock of its target
     pub target-in-release : phaseOf (T x .phase) ≡ release → Other n x (T x .op .send .target)
     unfolding isOneOf
     target-in-release e = holds-other x xn release e (target-below (F .own x xn) (rw (number x xn release e) refl))

@@ -15,7 +15,7 @@ use Rattle.model.specs.Shared.{done, running, codes, sameCode, nobody, wordLimi
 use Rattle.model.specs.Threads.{copy, release, wake, unlock}
 use Rattle.model.specs.WellFormed.{inPhase, isCode, nobodyOrBelow, sendInRange, receiveInRange, numbersInRange, ipcWithRunning, bareUnlessDone, notWithItself, sendAndMarkWithIpc, pollWithSend, receivingWithPart, ipcWithoutSend, idleWithoutFlags, releaseHasTarget, receiversSendClear, sendersSendSet}
 use Rattle.model.proofs.Laws.{_and_, all-of-read, all-of-made}
-use Rattle.invariant.proofs.Flags.{isOneOf, flagsFit, FlagsFit}
+use Rattle.formed.proofs.Flags.{isOneOf, flagsFit, FlagsFit}
 
 -- the outcome, in a table of n threads, of a thread with `ipc` as given
 unfoldable pub outcomeFits : ℕ → Bool → Outcome → Bool
@@ -79,9 +79,9 @@ pub record Clauses (n x : ℕ) (h : Thread) : Type 0 where
   pub items : length (h .queue .items) ≡ 32
 
 -- the same tests, in the one order
-pub own-read : (n x : ℕ) (h : Thread) → Clauses n x h → Own n x h
+pub own-grouped : (n x : ℕ) (h : Thread) → Clauses n x h → Own n x h
 unfolding numbersInRange ipcWithRunning bareUnlessDone notWithItself sendAndMarkWithIpc pollWithSend receivingWithPart ipcWithoutSend idleWithoutFlags releaseHasTarget receiversSendClear sendersSendSet inPhase isOneOf flagsFit outcomeFits operationFits phaseFits queueFits
-own-read n x h c =
+own-grouped n x h c =
     let (phase, (sendRange, (receiveRange, (sendPart, (releasePart, (left, (queued, more))))))) = all-of-read _ (c .numbers) in
     let (owner, (code, (source, (count, (copied, (waking, end)))))) = more in
     let (target, (freed, (partner, end))) = all-of-read _ (c .withOthers) in
@@ -95,9 +95,9 @@ own-read n x h c =
     }
 
 -- and in the other
-pub own-told : (n x : ℕ) (h : Thread) → Own n x h → Clauses n x h
+pub own-ungrouped : (n x : ℕ) (h : Thread) → Own n x h → Clauses n x h
 unfolding numbersInRange ipcWithRunning bareUnlessDone notWithItself sendAndMarkWithIpc pollWithSend receivingWithPart ipcWithoutSend idleWithoutFlags releaseHasTarget receiversSendClear sendersSendSet inPhase isOneOf flagsFit outcomeFits operationFits phaseFits queueFits
-own-told n x h w =
+own-ungrouped n x h w =
     let (phase, (sendAndMark, (poll, (receiving, (withoutSend, (idleFlags, (sendClear, (sendSet, (sendPart, (releasePart, end)))))))))) = all-of-read _ (w .flags) in
     let (code, (source, (count, (ipcExactly, (bareOutcome, end))))) = all-of-read _ (w .outcome) in
     let (sendRange, (receiveRange, (left, (target, (partner, end))))) = all-of-read _ (w .operation) in

@@ -4,13 +4,14 @@ use mathlib.Core.Bool.{Bool, true, false, not, _&&_, _||_, Bool·beq}
 use mathlib.Core.List.{List, [], _∷_}
 use Prim.Native.Nat.{ℕ, _≤_}
 use native.Mathlib.Omega.{arith}
+use lib.ListN.{length}
 use lib.Dec.{eqb, leb}
 use borrow.Author.Tests.{leb-true}
 use Rattle.model.specs.declared.Flags.{Flags}
 use Rattle.model.specs.declared.Thread.{Thread}
 use Rattle.model.specs.Lists.{implies, allOf, allBelow}
 use Rattle.model.specs.Shared.{hasReceive}
-use Rattle.model.specs.Threads.{Phase, idle, lock, check, copy, release, sleep, look, wake, unlock, phaseNumber}
+use Rattle.model.specs.Threads.{phases, Phase, idle, lock, check, copy, release, sleep, look, wake, unlock, phaseNumber}
 use Rattle.model.proofs.Laws.{and-left, and-right, implies-read, all-of-read, all-below-read}
 
 -- the number k is that of one of these phases
@@ -40,13 +41,13 @@ FlagsFit h = flagsFit (h .phase) (h .flags) (hasReceive (h .op .receive)) (h .op
 
 -- ---- every case
 -- f holds of true and of false
-unfoldable pub both : (Bool → Bool) → Bool
-both f = f true && f false
+unfoldable pub forBoth : (Bool → Bool) → Bool
+forBoth f = f true && f false
 
-both-read : (f : Bool → Bool) → both f ≡ true → (b : Bool) → f b ≡ true
-unfolding both
-both-read f e true = and-left (f true) (f false) e
-both-read f e false = and-right (f true) (f false) e
+for-both-read : (f : Bool → Bool) → forBoth f ≡ true → (b : Bool) → f b ≡ true
+unfolding forBoth
+for-both-read f e true = and-left (f true) (f false) e
+for-both-read f e false = and-right (f true) (f false) e
 
 -- a test of flags, with a receive part and a send part or without
 abbrev pub FlagTest : Type 0
@@ -58,17 +59,17 @@ fitsIn p = flagsFit (phaseNumber p)
 
 -- f holds of all flags
 unfoldable pub always : FlagTest → Bool
-always f = both (λ a. both (λ b. both (λ c. both (λ d. both (λ e. both (λ r. both (λ s.
+always f = forBoth (λ a. forBoth (λ b. forBoth (λ c. forBoth (λ d. forBoth (λ e. forBoth (λ r. forBoth (λ s.
     f (record { ipc = a; send = b; receiving = c; poll = d; mark = e }) r s)))))))
 
 always-read : (f : FlagTest) → always f ≡ true → (v : Flags) (r s : Bool) → f v r s ≡ true
 unfolding always
 always-read f t v r s =
-    both-read _ (both-read _ (both-read _ (both-read _ (both-read _ (both-read _ (both-read _ t (v .ipc)) (v .send)) (v .receiving)) (v .poll)) (v .mark)) r) s
+    for-both-read _ (for-both-read _ (for-both-read _ (for-both-read _ (for-both-read _ (for-both-read _ (for-both-read _ t (v .ipc)) (v .send)) (v .receiving)) (v .poll)) (v .mark)) r) s
 
 -- opens what a proof needs to compute every case
 unfoldable pub cases : ℕ
-unfolding implies allOf allBelow isOneOf flagsFit both always
+unfolding implies allOf allBelow isOneOf flagsFit forBoth always
 cases = 0
 
 -- ---- what follows from fitting flags
@@ -94,12 +95,12 @@ module _ (h : Thread) (fits : FlagsFit h) where
   phase-small = leb-true (h .phase) 8 (all-of-read _ fits .0)
 
   -- of a thread in any phase
-  pub told-any : (f : ℕ → FlagTest) → allBelow 9 (λ k. always (λ v r s. implies (flagsFit k v r s) (f k v r s))) ≡ true
+  pub told-any : (f : ℕ → FlagTest) → allBelow (length phases) (λ k. always (λ v r s. implies (flagsFit k v r s) (f k v r s))) ≡ true
       → f (h .phase) (h .flags) (hasReceive (h .op .receive)) (h .op .send .present) ≡ true
   told-any f t = let small = phase-small in
       told (h .phase) refl (f (h .phase)) (all-below-read 9 (λ k. always (λ v r s. implies (flagsFit k v r s) (f k v r s))) t (h .phase) (omega arith))
 
   -- where g holds of its flags too
-  pub told-any-if : (g f : ℕ → FlagTest) → allBelow 9 (λ k. always (λ v r s. implies (flagsFit k v r s) (implies (g k v r s) (f k v r s)))) ≡ true
+  pub told-any-if : (g f : ℕ → FlagTest) → allBelow (length phases) (λ k. always (λ v r s. implies (flagsFit k v r s) (implies (g k v r s) (f k v r s)))) ≡ true
       → g (h .phase) (h .flags) (hasReceive (h .op .receive)) (h .op .send .present) ≡ true → f (h .phase) (h .flags) (hasReceive (h .op .receive)) (h .op .send .present) ≡ true
   told-any-if g f t e = implies-read _ _ (told-any (λ k v r s. implies (g k v r s) (f k v r s)) t) e

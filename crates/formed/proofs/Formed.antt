@@ -1,0 +1,122 @@
+-- A well-formed table over the function of its threads: the clauses between threads by six readings, those on one thread grouped.
+use mathlib.Core.Path.{_≡_, refl}
+use mathlib.Core.Bool.{true, cond}
+use mathlib.Core.List.{[], _∷_}
+use Prim.Native.Nat.{ℕ, _≤_, _<_}
+use native.Mathlib.Omega.{arith}
+use lib.Dec.{leb}
+use borrow.Author.Tests.{leb-true}
+use Rattle.model.specs.declared.Thread.{Thread}
+use Rattle.model.specs.declared.Table.{Table}
+use Rattle.model.specs.Lists.{implies}
+use Rattle.model.specs.Shared.{nobody}
+use Rattle.model.specs.Threads.{copy, phaseOf, at, senders, ready, lockHeld}
+use Rattle.model.specs.WellFormed.{sizeInRange, inPhase, sendsTo, ownerOf, copiesToReady, Shaped, WellFormed}
+use Rattle.model.proofs.Laws.{by, and-right, implies-read, implies-made}
+use Rattle.formed.proofs.Flags.{cases, isOneOf, told-any}
+use Rattle.formed.proofs.Own.{Own, Clauses, own-grouped, own-ungrouped}
+use Rattle.formed.proofs.Facts.{target-other}
+use Rattle.formed.proofs.Locks.{Owners, within, Chains}
+use Rattle.formed.proofs.Queues.{Queues}
+use Rattle.formed.proofs.Copies.{Copies}
+
+-- a reading of every thread
+abbrev pub of {ℓ} : {A : Type ℓ} → (Thread → A) → (ℕ → Thread) → ℕ → A
+of P T y = P (T y)
+
+-- the owner of a thread's lock
+abbrev pub owner : Thread → ℕ
+owner h = h .owner
+
+-- the thread to which a thread copies, or nobody
+unfoldable pub copiesTo : Thread → ℕ
+copiesTo h = cond (isOneOf (copy ∷ []) (h .phase)) (h .op .send .target) nobody
+
+-- opens the six readings of a thread on which the clauses between threads depend
+unfoldable pub readings : ℕ
+unfolding copiesTo sendsTo senders ready lockHeld phaseOf
+readings = 0
+
+-- the clauses of `WellFormed`, with those on one thread grouped
+pub record Formed (n : ℕ) (T : ℕ → Thread) : Type 0 where
+  pub few : n ≤ 32
+  pub own : (x : ℕ) → x < n → Own n x (T x)
+  pub queues : Queues n (of sendsTo T) (of senders T)
+  pub owners : Owners n (of owner T) (of lockHeld T)
+  pub chains : Chains n (of owner T)
+  pub copies : Copies n (of copiesTo T) (of ready T)
+
+-- ---- the same as `WellFormed` with `Shaped`
+module _ (t : Table) (w : WellFormed t) (z : Shaped t) where
+  small : t .n ≤ 32
+  unfolding sizeInRange
+  small = leb-true (t .n) 32 (and-right (leb 1 (t .n)) (leb (t .n) 32) (w .size))
+
+  copies-read : Copies (t .n) (of copiesTo (at t)) (of ready (at t))
+  unfolding copiesTo isOneOf copiesToReady inPhase
+  copies-read x xn = by (isOneOf (copy ∷ []) (at t x .phase))
+      (λ e. rw e (λ l. implies-read _ _ (w .copies x xn) e))
+      (λ e. rw e (λ l. absurd (let s = small in omega arith)))
+
+  -- the clauses of a thread
+  clauses-at : (x : ℕ) → x < t .n → Clauses (t .n) x (at t x)
+  clauses-at x xn = record {
+    numbers = w .numbers x xn;
+    ipcExactly = w .ipcExactly x xn;
+    bareOutcome = w .bareOutcome x xn;
+    withOthers = w .withOthers x xn;
+    sendAndMark = w .sendAndMark x xn;
+    poll = w .poll x xn;
+    receiving = w .receiving x xn;
+    withoutSend = w .withoutSend x xn;
+    idleFlags = w .idleFlags x xn;
+    releaseTarget = w .releaseTarget x xn;
+    sendClear = w .sendClear x xn;
+    sendSet = w .sendSet x xn;
+    items = z .queues x xn;
+  }
+
+  -- read in this form
+  pub formed-grouped : Formed (t .n) (at t)
+  unfolding ownerOf within
+  formed-grouped = record {
+    few = small;
+    own = λ x xn. own-grouped (t .n) x (at t x) (clauses-at x xn);
+    queues = w .queues;
+    owners = w .owners;
+    chains = w .chains;
+    copies = copies-read;
+  }
+
+-- a table of the right size is well-formed if its threads are
+module _ (t : Table) (size : sizeInRange (t .n) ≡ true) (F : Formed (t .n) (at t)) where
+  own-clauses : (x : ℕ) → x < t .n → Clauses (t .n) x (at t x)
+  own-clauses x xn = own-ungrouped (t .n) x (at t x) (F .own x xn)
+
+  copies-told : (x : ℕ) → x < t .n → copiesToReady t x (at t x) ≡ true
+  unfolding copiesTo copiesToReady inPhase cases
+  copies-told x xn = implies-made _ _ (λ (e : isOneOf (copy ∷ []) (at t x .phase) ≡ true).
+      let sends : at t x .flags .send ≡ true = implies-read _ _ (told-any (at t x) (F .own x xn .flags) (λ k v r s. implies (isOneOf (copy ∷ []) k) (v .send)) refl) e in
+      rw e at (F .copies x xn (rw e (target-other (F .own x xn) sends .below))))
+
+  pub formed-ungrouped : WellFormed t
+  unfolding ownerOf within
+  formed-ungrouped = record {
+    size = size;
+    numbers = λ x xn. own-clauses x xn .numbers;
+    ipcExactly = λ x xn. own-clauses x xn .ipcExactly;
+    bareOutcome = λ x xn. own-clauses x xn .bareOutcome;
+    withOthers = λ x xn. own-clauses x xn .withOthers;
+    queues = F .queues;
+    owners = F .owners;
+    chains = F .chains;
+    sendAndMark = λ x xn. own-clauses x xn .sendAndMark;
+    poll = λ x xn. own-clauses x xn .poll;
+    receiving = λ x xn. own-clauses x xn .receiving;
+    withoutSend = λ x xn. own-clauses x xn .withoutSend;
+    idleFlags = λ x xn. own-clauses x xn .idleFlags;
+    releaseTarget = λ x xn. own-clauses x xn .releaseTarget;
+    sendClear = λ x xn. own-clauses x xn .sendClear;
+    sendSet = λ x xn. own-clauses x xn .sendSet;
+    copies = copies-told;
+  }

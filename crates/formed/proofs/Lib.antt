@@ -1,0 +1,9 @@
+pub mod Flags
+pub mod Own
+pub mod Facts
+pub mod Locks
+pub mod Queues
+pub mod Copies
+pub mod Formed
+pub mod Neighbours
+pub mod Receivers
