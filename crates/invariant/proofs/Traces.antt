@@ -25,11 +25,11 @@ Always P [] = Unit {0}
 Always P (c ∷ cs) = P (c .after) × Always P cs
 
 -- a new table has it
-new-lasting : (n : ℕ) → 1 ≤ n → n ≤ 32 → (store : List ℕ) → length store ≡ 8 * n → Lasting n (state (newTable n) store)
+pub new-lasting : (n : ℕ) → 1 ≤ n → n ≤ 32 → (store : List ℕ) → length store ≡ 8 * n → Lasting n (state (newTable n) store)
 new-lasting n one few store fit = record { shaped = new-shaped n few; formed = new-well-formed n one few; size = new-size n; store = fit }
 
 -- every call keeps it
-next-lasting : (n : ℕ) (s : State) (c : Call) → Lasting n s → Lasting n (next c s)
+pub next-lasting : (n : ℕ) (s : State) (c : Call) → Lasting n s → Lasting n (next c s)
 next-lasting n s c k = record {
   shaped = keeps-shaped c s (k .shaped);
   formed = keeps-well-formed c s (k .shaped) (k .formed);

@@ -1,61 +1,57 @@
--- Demand 3: every trace has one linearization, and it is the one that `linearization` computes.
+-- Demand 3: every trace has a linearization, the one that `linearization` computes. That it has no other is in `Forced`.
 use mathlib.Core.Path.{_≡_, sym, ap, _∙_, subst}
-use mathlib.Core.List.{List, [], _∷_, map, reverseAux}
+use mathlib.Core.List.{List, [], _∷_, reverseAux}
 use Prim.Native.Nat.{ℕ, _*_, _≤_, _<_}
 use lib.ListN.{length}
 use Rattle.model.specs.Answers.{Said}
 use Rattle.model.specs.Shared.{View}
 use Rattle.model.specs.Threads.{newTable}
-use Rattle.model.specs.Calls.{Call, State}
+use Rattle.model.specs.Calls.{State}
 use Rattle.model.specs.Promise.{state, Promise, view}
 use Rattle.model.specs.Atomic.{AtomicThread, Machine, shows}
 use Rattle.model.specs.Linearization.{Observed, Trace, Entry, playEntry, played, AtCall, Follows, FollowsAll, Linearizes, Demand3}
-use Rattle.model.specs.Linearized.{entry, linearization}
+use Rattle.model.specs.Linearized.{entry, linearization, callsOf}
 use Rattle.pairing.proofs.Operations.{AllAllowed}
 use Rattle.pairing.proofs.Endings.{ending-begun, shown-ended}
 use Rattle.pairing.proofs.Pairing.{all-paired}
-use Rattle.simulation.proofs.Abstraction.{seems}
-use Rattle.linearization.proofs.Stands.{Stands, first-stands, goes}
+use Rattle.simulation.proofs.Abstraction.{abstraction}
+use Rattle.linearization.proofs.Represents.{Represents, first-represents, call-simulated}
 
--- the calls of a trace
-abbrev pub callsOf : List Observed → List Call
-callsOf trace = map (λ c. c .call) trace
-
--- what stands for a machine shows what it shows
-pub stands-shown : (n : ℕ) (s : State) (p : Machine) → Stands n s p → (x : ℕ) → x < n → view s x ≡ shows p x
-unfolding view seems
-stands-shown n s p S x xn = sym (ap {B = View} (λ (q : AtomicThread). record { outcome = q .outcome; words = q .words }) (S .simulates .like x (rw (S .size) xn)))
+-- a state shows what the machine that it represents shows
+pub represents-shown : (n : ℕ) (s : State) (p : Machine) → Represents n s p → (x : ℕ) → x < n → view s x ≡ shows p x
+unfolding view abstraction
+represents-shown n s p R x xn = sym (ap {B = View} (λ (q : AtomicThread). record { outcome = q .outcome; words = q .words }) (R .simulates .like x (rw (R .lasting .size) xn)))
 
 -- ---- one call
-module _ (n : ℕ) (past : List Entry) (all : AllAllowed n past) (s : State) (S : Stands n s (played n past)) (c : Observed) (kept : Promise (c .call) s (c .answer) (c .after)) where
-  -- what it leaves stands for the machine after its entry
-  pub left-stands : Stands n (c .after) (played n (entry (c .call) s ∷ past))
+module _ (n : ℕ) (past : List Entry) (all : AllAllowed n past) (s : State) (R : Represents n s (played n past)) (c : Observed) (kept : Promise (c .call) s (c .answer) (c .after)) where
+  -- what it leaves represents the machine after its entry
+  pub left-represents : Represents n (c .after) (played n (entry (c .call) s ∷ past))
   unfolding played
-  left-stands = subst (λ (after : State). Stands n after (playEntry n (entry (c .call) s) (played n past))) (sym (kept .leaves)) (goes n (c .call) s (played n past) S .stands)
+  left-represents = subst (λ (after : State). Represents n after (playEntry n (entry (c .call) s) (played n past))) (sym (kept .leaves)) (call-simulated n (c .call) s (played n past) R .represents)
 
   -- its entry follows
   pub entry-follows : Follows n past c (entry (c .call) s)
   entry-follows = record {
-    place = subst (λ (a : Said). AtCall (c .call) a (entry (c .call) s) (played n past)) (sym (kept .answers)) (goes n (c .call) s (played n past) S .place);
-    allowed = goes n (c .call) s (played n past) S .allowed;
-    views = stands-shown n (c .after) (played n (entry (c .call) s ∷ past)) left-stands;
+    place = subst (λ (a : Said). AtCall (c .call) a (entry (c .call) s) (played n past)) (sym (kept .answers)) (call-simulated n (c .call) s (played n past) R .place);
+    allowed = call-simulated n (c .call) s (played n past) R .allowed;
+    views = represents-shown n (c .after) (played n (entry (c .call) s ∷ past)) left-represents;
     begun = λ x xn ends. ending-begun n x (entry (c .call) s) past all ends;
     shown = λ x xn i began over. shown-ended n x i (entry (c .call) s ∷ past) began
-        (λ e. over (ap (λ (v : View). v .outcome .code) (stands-shown n (c .after) (played n (entry (c .call) s ∷ past)) left-stands x xn) ∙ e));
+        (λ e. over (ap (λ (v : View). v .outcome .code) (represents-shown n (c .after) (played n (entry (c .call) s ∷ past)) left-represents x xn) ∙ e));
   }
 
 -- ---- all calls of a trace, after any past
 module _ (n : ℕ) where
   -- each has its entry
-  follows-all : (past : List Entry) → AllAllowed n past → (s : State) → Stands n s (played n past) → (trace : List Observed) → Trace s trace
+  follows-all : (past : List Entry) → AllAllowed n past → (s : State) → Represents n s (played n past) → (trace : List Observed) → Trace s trace
       → FollowsAll n past trace (linearization s (callsOf trace))
   unfolding linearization
-  follows-all past all s S [] t = tt
-  follows-all past all s S (c ∷ cs) (kept, rest) =
-      let f = entry-follows n past all s S c kept in (
+  follows-all past all s R [] t = tt
+  follows-all past all s R (c ∷ cs) (kept, rest) =
+      let f = entry-follows n past all s R c kept in (
         f,
         subst (λ (after : State). FollowsAll n (entry (c .call) s ∷ past) cs (linearization after (callsOf cs))) (kept .leaves)
-            (follows-all (entry (c .call) s ∷ past) (all, f .allowed) (c .after) (left-stands n past all s S c kept) cs rest),
+            (follows-all (entry (c .call) s ∷ past) (all, f .allowed) (c .after) (left-represents n past all s R c kept) cs rest),
       )
 
   -- and each entry was allowed
@@ -71,7 +67,7 @@ pub linearizes : (n : ℕ) → 1 ≤ n → n ≤ 32 → (store : List ℕ) → l
     → Linearizes n trace (linearization (state (newTable n) store) (callsOf trace))
 unfolding played
 linearizes n one few store fit trace t =
-    let f = follows-all n [] tt (state (newTable n) store) (first-stands n one few store fit) trace t in
+    let f = follows-all n [] tt (state (newTable n) store) (first-represents n one few store fit) trace t in
     record { follows = f; paired = all-paired n _ (followed-allowed n [] tt trace _ f) }
 
 -- demand 3

@@ -10,7 +10,7 @@ use borrow.Author.Tests.{eqb-false, eq-eqb, ne-eqb}
 use Rattle.model.specs.declared.Receive.{Receive}
 use Rattle.model.specs.declared.Operation.{Operation}
 use Rattle.model.specs.Lists.{update}
-use Rattle.model.specs.Shared.{done, codeOnly, hasReceive, accepts, message}
+use Rattle.model.specs.Shared.{running, sameCode, done, codeOnly, hasReceive, accepts, message}
 use Rattle.model.specs.Atomic.{Run, nothing, sending, receiving, AtomicThread, Machine, begins, cancels, ticks, rendezvous, aborts, runs, ending, turning, beginning, cancelling, ticking, receiverAfter, senderAfter, play, isReceiving, acceptsIn, CanAbort, cancelledSending, lateSending, cancelledReceiving, lateReceiving, Can}
 use Rattle.model.specs.Linearization.{Entry, playEntry, Allowed, beginsBy}
 use Rattle.model.proofs.Laws.{by, same?}
@@ -131,6 +131,13 @@ module _ (n : ℕ) (p : Machine) (x : ℕ) where
   abort-runs c (lateSending o e t k) = rw e refl
   abort-runs c (cancelledReceiving w e m) = rw e refl
   abort-runs c (lateReceiving w e t k) = rw e refl
+
+  -- and then shows another code than running
+  pub abort-over : (c : ℤ) → CanAbort n p x c → sameCode running c ≡ false
+  abort-over c (cancelledSending o e m) = refl
+  abort-over c (lateSending o e t k) = refl
+  abort-over c (cancelledReceiving w e m) = refl
+  abort-over c (lateReceiving w e t k) = refl
 
   -- a thread that runs nothing stays as it is until it begins
   pub idle-kept : (e : Entry) (q : AtomicThread) → Effect n p x e q → runs (p x .run) ≡ false → Alike q (p x)

@@ -1,5 +1,5 @@
 -- Each completed send has exactly one completed receive, with its source, count and words; and each completed receive exactly one completed send.
-use mathlib.Core.Path.{_≡_, refl, sym, ap, _∙_}
+use mathlib.Core.Path.{_≡_, refl, sym, ap, _∙_, subst, subst₂}
 use mathlib.Core.Logic.{inl, inr, ⊎-elim}
 use mathlib.Core.Bool.{true, false}
 use mathlib.Core.List.{List, [], _∷_, map}
@@ -10,9 +10,9 @@ use borrow.Author.Tests.{eqb-true, eqb-false}
 use Rattle.model.specs.declared.Operation.{Operation}
 use Rattle.model.specs.Lists.{bit, occurs}
 use Rattle.model.specs.Shared.{done, accepts, message}
-use Rattle.model.specs.Linearization.{Entry, pairs, fate, BeginsAt, Among, Match}
+use Rattle.model.specs.Linearization.{Entry, pairs, fate, BeginsAt, Among, Match, sendCompleted, receiveCompleted}
 use Rattle.model.proofs.Laws.{by}
-use Rattle.pairing.proofs.Sides.{Side, placeOn, completed}
+use Rattle.pairing.proofs.Sides.{Side, placeOn, completed, sender, receiver}
 use Rattle.pairing.proofs.Places.{begins-one}
 use Rattle.pairing.proofs.Operations.{AllAllowed}
 use Rattle.pairing.proofs.Counting.{counted}
@@ -70,3 +70,70 @@ each-completed side n x o i past l b c =
     let one = one-pair (placeOn side) i (pairs past) (counted n side x o i past l b ∙ ap bit c) in
     let m = all-paired n past l .matched (one .pair .0) (one .pair .1) (one .among) in
     (one, m, pair-exchanged n (one .pair .0) (one .pair .1) past l (one .among) m)
+
+-- ---- the same from the side of each operation
+-- the one receive by which operation o of thread x, begun at place i, was received: at its target, with x as source and o's count and words
+pub record ReceivedOnce (n x : ℕ) (o : Operation) (i : ℕ) (past : List Entry) : Type 0 where
+  pub operation : Operation
+  pub place : ℕ
+  pub begins : BeginsAt (o .send .target) operation place past
+  pub accepted : accepts (operation .receive) x ≡ true
+  pub ended : EndedWith (record { code = done; source = x; count = o .send .count }) (message (o .send)) (fate n (o .send .target) place past)
+  pub among : Among (i, place) (pairs past)
+  pub only : (j : ℕ) → Among (i, j) (pairs past) → j ≡ place
+
+-- the one send by which operation o of thread x, begun at place i, ended: of a thread that sent to x, with its number as source, its count and words
+pub record SentOnce (n x : ℕ) (o : Operation) (i : ℕ) (past : List Entry) : Type 0 where
+  pub sender : ℕ
+  pub operation : Operation
+  pub place : ℕ
+  pub begins : BeginsAt sender operation place past
+  pub target : operation .send .target ≡ x
+  pub accepted : accepts (o .receive) sender ≡ true
+  pub ended : EndedWith (record { code = done; source = sender; count = operation .send .count }) (message (operation .send)) (fate n x i past)
+  pub among : Among (place, i) (pairs past)
+  pub only : (j : ℕ) → Among (j, i) (pairs past) → j ≡ place
+
+module _ (n i j : ℕ) (past : List Entry) (m : Match n i j past) (k : Exchanged n i j past m) (a : Among (i, j) (pairs past)) where
+  -- a match from the side of its send, where it is the only one
+  match-received : ((u : ℕ) → Among (i, u) (pairs past) → u ≡ j) → ReceivedOnce n (m .sender) (m .sent) i past
+  match-received only = record {
+    operation = m .received;
+    place = j;
+    begins = subst (λ (r : ℕ). BeginsAt r (m .received) j past) (sym (m .target)) (m .receives);
+    accepted = k .accepted;
+    ended = subst (λ (r : ℕ). EndedWith (record { code = done; source = m .sender; count = m .sent .send .count }) (message (m .sent .send)) (fate n r j past)) (sym (m .target)) (k .ended);
+    among = a;
+    only = only;
+  }
+
+  -- and from the side of its receive
+  match-sent : ((u : ℕ) → Among (u, j) (pairs past) → u ≡ i) → SentOnce n (m .receiver) (m .received) j past
+  match-sent only = record {
+    sender = m .sender;
+    operation = m .sent;
+    place = i;
+    begins = m .sends;
+    target = m .target;
+    accepted = k .accepted;
+    ended = k .ended;
+    among = a;
+    only = only;
+  }
+
+module _ (n x : ℕ) (o : Operation) (i : ℕ) (past : List Entry) (l : AllAllowed n past) (b : BeginsAt x o i past) where
+  -- each completed send was received once
+  pub send-received : sendCompleted o (fate n x i past) ≡ true → ReceivedOnce n x o i past
+  send-received c =
+      let (one, m, k) = each-completed sender n x o i past l b c in
+      let from = begins-one (m .sender) x (m .sent) o (one .pair .0) i past (m .sends) b (one .has) in
+      subst (λ (u : ℕ). ReceivedOnce n x o u past) (one .has) (subst₂ (λ (y : ℕ) (u : Operation). ReceivedOnce n y u (one .pair .0) past) (from .0) (from .1)
+      (match-received n (one .pair .0) (one .pair .1) past m k (one .among) (λ u h. ap (λ (pair : ℕ × ℕ). pair .1) (one .only (one .pair .0, u) h (one .has)))))
+
+  -- each completed receive had one send
+  pub receive-sent : receiveCompleted o (fate n x i past) ≡ true → SentOnce n x o i past
+  receive-sent c =
+      let (one, m, k) = each-completed receiver n x o i past l b c in
+      let to = begins-one (m .receiver) x (m .received) o (one .pair .1) i past (m .receives) b (one .has) in
+      subst (λ (u : ℕ). SentOnce n x o u past) (one .has) (subst₂ (λ (y : ℕ) (u : Operation). SentOnce n y u (one .pair .1) past) (to .0) (to .1)
+      (match-sent n (one .pair .0) (one .pair .1) past m k (one .among) (λ u h. ap (λ (pair : ℕ × ℕ). pair .0) (one .only (u, one .pair .1) h (one .has)))))

@@ -14,7 +14,7 @@ use Rattle.model.specs.Atomic.{Run, nothing, sending, receiving, AtomicThread, 
 use Rattle.model.specs.Linearization.{Entry, playEntry, played, Allowed, beginsBy, latest, isRunning, BeginsAt}
 use Rattle.model.proofs.Laws.{by}
 use Rattle.laws.proofs.Lists.{update-same}
-use Rattle.pairing.proofs.Effects.{Alike, equal-alike, Effect, kept, aborted, turned, sent, received, effect, idle-kept}
+use Rattle.pairing.proofs.Effects.{Alike, equal-alike, Effect, kept, aborted, turned, sent, received, effect, abort-over, idle-kept}
 use Rattle.pairing.proofs.Places.{begins-one, is-begin, latest-new, latest-old}
 
 -- each entry of `past` was allowed where it stands
@@ -29,34 +29,48 @@ PartOf o nothing = Unit {0}
 PartOf o (sending u) = (u ≡ o) × (o .send .present ≡ true)
 PartOf o (receiving w) = w ≡ o .receive
 
--- a thread runs no more than operation o: a part of it, which it shows as running, or nothing
+-- a thread runs no more than operation o: a part of it, or nothing; and it shows running exactly where it runs
 pub record RunsOnly (o : Operation) (q : AtomicThread) : Type 0 where
   pub part : PartOf o (q .run)
   pub shown : runs (q .run) ≡ true → q .outcome .code ≡ running
+  pub busy : sameCode running (q .outcome .code) ≡ true → runs (q .run) ≡ true
 
--- so does one that runs nothing
-idle-only : (o : Operation) (q : AtomicThread) → q .run ≡ nothing → RunsOnly o q
-idle-only o q e = record { part = subst (PartOf o) (sym e) tt; shown = λ i. absurd (true≢false (sym i ∙ ap runs e)) }
+-- a thread that runs nothing, and shows another code, runs no more than any operation
+idle-only : (o : Operation) (q : AtomicThread) → q .run ≡ nothing → sameCode running (q .outcome .code) ≡ false → RunsOnly o q
+idle-only o q e f = record { part = subst (PartOf o) (sym e) tt; shown = λ i. absurd (true≢false (sym i ∙ ap runs e)); busy = λ i. absurd (true≢false (sym i ∙ f)) }
 
 -- the part that an operation begins with is a part of it
 first-part : (o : Operation) (present : Bool) → o .send .present ≡ present → PartOf o (cond present (sending o) (receiving (o .receive)))
 first-part o true e = (refl, e)
 first-part o false e = refl
 
--- so does one that has just begun o
+-- and runs
+first-runs : (o : Operation) (present : Bool) → runs (cond present (sending o) (receiving (o .receive))) ≡ true
+first-runs o true = refl
+first-runs o false = refl
+
+-- a thread that has just begun o runs no more than o
 begun-only : (n : ℕ) (o : Operation) (q : AtomicThread) → RunsOnly o (beginning n o q)
 unfolding beginning
 begun-only n o q = by (targetBeyond n o)
-    (λ e. rw e (idle-only o (ending (codeOnly noReceiver) [] q) refl))
-    (λ e. rw e (record { part = first-part o (o .send .present) refl; shown = λ i. refl }))
+    (λ e. rw e (idle-only o (ending (codeOnly noReceiver) [] q) refl refl))
+    (λ e. rw e (record { part = first-part o (o .send .present) refl; shown = λ i. refl; busy = λ i. first-runs o (o .send .present) }))
 
--- and it does so after an entry that is no begin of its own
+-- a thread that runs no more than o does so after an entry that is no begin of its own
 kept-only : (n : ℕ) (p : Machine) (x : ℕ) (o : Operation) → RunsOnly o (p x) → (e : Entry) (q : AtomicThread) → Effect n p x e q → RunsOnly o q
-kept-only n p x o t e q (kept off a) = record { part = subst (PartOf o) (sym (a .run)) (t .part); shown = λ i. ap (λ (u : Outcome). u .code) (a .outcome) ∙ t .shown (rw (a .run) at i) }
-kept-only n p x o t e q (aborted c off g k) = idle-only o q (ap (λ (q : AtomicThread). q .run) k)
-kept-only n p x o t e q (turned u on r h k) = subst (RunsOnly o) (sym k) (record { part = ap (λ (v : Operation). v .receive) (subst (PartOf o) r (t .part) .0); shown = λ i. t .shown (ap runs r) })
-kept-only n p x o t e q (sent u on r h k) = idle-only o q (ap (λ (q : AtomicThread). q .run) k)
-kept-only n p x o t e q (received s u w on j r a k) = idle-only o q (ap (λ (q : AtomicThread). q .run) k)
+kept-only n p x o t e q (kept off a) = record {
+  part = subst (PartOf o) (sym (a .run)) (t .part);
+  shown = λ i. ap (λ (u : Outcome). u .code) (a .outcome) ∙ t .shown (rw (a .run) at i);
+  busy = λ i. ap runs (a .run) ∙ t .busy (rw (a .outcome) at i);
+}
+kept-only n p x o t e q (aborted c off g k) = subst (RunsOnly o) (sym k) (idle-only o _ refl (abort-over n p x c g))
+kept-only n p x o t e q (turned u on r h k) = subst (RunsOnly o) (sym k) (record {
+  part = ap (λ (v : Operation). v .receive) (subst (PartOf o) r (t .part) .0);
+  shown = λ i. t .shown (ap runs r);
+  busy = λ i. refl;
+})
+kept-only n p x o t e q (sent u on r h k) = subst (RunsOnly o) (sym k) (idle-only o _ refl refl)
+kept-only n p x o t e q (received s u w on j r a k) = subst (RunsOnly o) (sym k) (idle-only o _ refl refl)
 
 -- ---- the latest operation of a thread
 -- x's latest operation and where it began: nothing else runs in x
@@ -119,3 +133,7 @@ module _ (n x : ℕ) (past : List Entry) (l : AllAllowed n past) where
       let one = begins-one x x (h .operation) o (h .place) i past (h .begins) b cc in
       subst (λ (u : Operation). RunsOnly u (played n past x)) (one .1) (h .runs))
       (standing n x past l)
+
+  -- what shows running runs
+  pub shown-runs : isRunning (played n past) x ≡ true → runs (played n past x .run) ≡ true
+  shown-runs r = shown-begun r .runs .busy r

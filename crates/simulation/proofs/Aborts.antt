@@ -1,12 +1,11 @@
 -- The aborts: each is allowed in the atomic machine where a step decides on it, and ends the thread alike.
 use mathlib.Core.Path.{_≡_, refl, ap, _∙_}
-use mathlib.Core.Bool.{true, false, not}
+use mathlib.Core.Bool.{true, false}
 use mathlib.Core.Option.{none, some}
 use mathlib.Core.List.{List, []}
 use Prim.Native.Nat.{ℕ, _<_}
 use native.Mathlib.Omega.{arith}
 use lib.IntN.{ℤ}
-use borrow.Author.Tests.{not-true}
 use Rattle.model.specs.declared.Thread.{Thread}
 use Rattle.model.specs.Shared.{receiveTimeOver, sendTimeOver, receiveCancelled, sendCancelled, nobody, codeOnly}
 use Rattle.model.specs.Threads.{check, look, phaseOf, departed, findSender, ready}
@@ -14,11 +13,11 @@ use Rattle.model.specs.Step.{Action, abortSend, abortReceive, ownAfter, otherAf
 use Rattle.model.specs.Atomic.{receiving, Machine, aborts, ending, play, CanAbort, cancelledSending, lateSending, cancelledReceiving, lateReceiving}
 use Rattle.laws.proofs.Search.{none-acceptable}
 use Rattle.laws.proofs.Decided.{otherOf, afterAction}
-use Rattle.formed.proofs.Flags.{cases, isOneOf, told}
+use Rattle.formed.proofs.Flags.{isOneOf}
 use Rattle.formed.proofs.Facts.{target-other}
 use Rattle.formed.proofs.Formed.{copiesTo}
-use Rattle.formed.proofs.Neighbours.{few, number, sends-in-check, sends-queued}
-use Rattle.simulation.proofs.Abstraction.{seems, CopiedBy, copies-nowhere}
+use Rattle.formed.proofs.Neighbours.{quiet-in-look, few, sends-in-check, sends-queued}
+use Rattle.simulation.proofs.Abstraction.{abstraction, CopiedBy, copies-nowhere}
 use Rattle.simulation.proofs.Leads.{Simulates, Leads, same-store, own-leads}
 use Rattle.simulation.proofs.Conditions.{mark-alike, left-alike, sends-alike, receives-alike, ready-alike, queued-alike}
 
@@ -45,8 +44,7 @@ module _ {n : ℕ} {p : Machine} {T : ℕ → Thread} {store : List ℕ} (S : Si
   module _ (c : phaseOf (h .phase) ≡ look) (runs : h .flags .ipc ≡ true) where
     -- it receives
     receives : p x .run ≡ receiving (h .op .receive)
-    unfolding cases
-    receives = receives-alike S x xn runs (not-true (h .flags .send) (told h (S .formed .own x xn .flags) 6 (number (S .formed) x xn look c) (λ v r s. not (v .send)) refl))
+    receives = receives-alike S x xn runs (quiet-in-look (S .formed) x xn c)
 
     -- a marked thread may abort its receive
     pub receive-cancelled : h .flags .mark ≡ true → CanAbort n p x receiveCancelled
@@ -61,8 +59,8 @@ module _ {n : ℕ} {p : Machine} {T : ℕ → Thread} {store : List ℕ} (S : Si
   -- ---- what they leave
   module _ (c : ℤ) (can : CanAbort n p x c) where
     -- an action that ends x with this code, and of whose other thread the atomic machine sees no change
-    aborts-lead : (a : Action) → seems (otherAfter a x h (T (otherOf a h))) ≡ seems (T (otherOf a h))
-        → ((words : List ℕ) → ending (codeOnly c) [] (seems h words) ≡ seems (ownAfter a h) words)
+    aborts-lead : (a : Action) → abstraction (otherAfter a x h (T (otherOf a h))) ≡ abstraction (T (otherOf a h))
+        → ((words : List ℕ) → ending (codeOnly c) [] (abstraction h words) ≡ abstraction (ownAfter a h) words)
         → (CopiedBy n store (T (otherOf a h)) → CopiedBy n store (otherAfter a x h (T (otherOf a h)))) → copiesTo (ownAfter a h) ≡ nobody
         → Leads n (some (aborts x c)) p (afterAction a T x) store
     unfolding play
@@ -71,10 +69,10 @@ module _ {n : ℕ} {p : Machine} {T : ℕ → Thread} {store : List ℕ} (S : Si
 
     -- of a send
     pub abort-send-leads : Leads n (some (aborts x c)) p (afterAction (abortSend c) T x) store
-    unfolding ownAfter otherAfter departed seems copiesTo isOneOf
+    unfolding ownAfter otherAfter departed abstraction copiesTo isOneOf
     abort-send-leads = aborts-lead (abortSend c) refl (λ words. refl) (λ k. k) refl
 
     -- of a receive
     pub abort-receive-leads : Leads n (some (aborts x c)) p (afterAction (abortReceive c) T x) store
-    unfolding ownAfter otherAfter seems copiesTo isOneOf
+    unfolding ownAfter otherAfter abstraction copiesTo isOneOf
     abort-receive-leads = aborts-lead (abortReceive c) refl (λ words. refl) (λ k. k) refl

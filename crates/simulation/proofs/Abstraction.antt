@@ -24,9 +24,9 @@ unfoldable pub runOf : Bool → Bool → Operation → Run
 runOf ipc send o = cond ipc (cond send (sending o) (receiving (o .receive))) nothing
 
 -- the thread of the atomic machine that a thread and its eight words stand for
-unfoldable pub seems : Thread → List ℕ → AtomicThread
+unfoldable pub abstraction : Thread → List ℕ → AtomicThread
 unfolding runOf
-seems h words = record { run = runOf (h .flags .ipc) (h .flags .send) (h .op); mark = h .flags .mark; left = h .left; outcome = h .outcome; words = take (h .outcome .count) words }
+abstraction h words = record { run = runOf (h .flags .ipc) (h .flags .send) (h .op); mark = h .flags .mark; left = h .left; outcome = h .outcome; words = take (h .outcome .count) words }
 
 -- an operation runs where `ipc` is set
 pub runs-with-ipc : (ipc send : Bool) (o : Operation) → runs (runOf ipc send o) ≡ ipc

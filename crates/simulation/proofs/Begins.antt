@@ -2,37 +2,33 @@
 use mathlib.Core.Path.{_≡_, refl, sym, ap}
 use mathlib.Core.Bool.{true, false, not}
 use mathlib.Core.Option.{some}
-use mathlib.Core.List.{List, [], _∷_}
+use mathlib.Core.List.{List, []}
 use Prim.Native.Nat.{ℕ, _<_}
 use native.Mathlib.Omega.{arith}
 use lib.ListN.{length}
 use borrow.Author.Tests.{not-true}
 use Rattle.model.specs.declared.Operation.{Operation}
 use Rattle.model.specs.declared.Thread.{Thread}
-use Rattle.model.specs.declared.Table.{Table}
 use Rattle.model.specs.Lists.{update}
 use Rattle.model.specs.Shared.{nobody, noReceiver, codeOnly, targetBeyond}
-use Rattle.model.specs.Threads.{Phase, idle, lock, copy, look, at, ended, joined, wordsAt, zeroed}
-use Rattle.model.specs.WellFormed.{inPhase}
+use Rattle.model.specs.Threads.{Phase, idle, lock, look, at, ended, joined, wordsAt, zeroed, phaseOf}
 use Rattle.model.specs.Calls.{begunFlags, begun, beginTable, State}
 use Rattle.model.specs.Atomic.{Machine, begins, ending, beginning, play, Can}
-use Rattle.model.proofs.Laws.{by}
 use Rattle.laws.proofs.Tables.{edit-at, edit-two-at}
 use Rattle.laws.proofs.Store.{words-zeroed-other}
 use Rattle.laws.proofs.Decided.{lock-free-read}
 use Rattle.laws.proofs.Refusals.{AcceptedBegin}
-use Rattle.laws.proofs.Calls.{target-beyond, begins-to-send, begins-to-receive}
-use Rattle.formed.proofs.Flags.{cases, isOneOf, told-any-if}
+use Rattle.laws.proofs.Calls.{begin-cases}
+use Rattle.formed.proofs.Flags.{cases, isOneOf}
 use Rattle.formed.proofs.Formed.{copiesTo}
-use Rattle.formed.proofs.Neighbours.{few, no-copier}
-use Rattle.invariant.proofs.Keeps.{target-near}
-use Rattle.simulation.proofs.Abstraction.{seems, copies-nowhere, copied-kept}
+use Rattle.formed.proofs.Neighbours.{in-phase, copies-in, few, no-copier}
+use Rattle.simulation.proofs.Abstraction.{abstraction, copies-nowhere, copied-kept}
 use Rattle.simulation.proofs.Leads.{Simulates, Leads, OthersKept, own-leads, alone-leads}
 use Rattle.simulation.proofs.Conditions.{rests-alike}
 
 -- thread x, in idle and with a free lock, begins o
 module _ {n : ℕ} {p : Machine} {T : ℕ → Thread} {store : List ℕ} (S : Simulates n p T store) (x : ℕ) (xn : x < n)
-    (unowned : T x .owner ≡ nobody) (inIdle : inPhase (idle ∷ []) (T x) ≡ true) (o : Operation) where
+    (unowned : T x .owner ≡ nobody) (inIdle : phaseOf (T x .phase) ≡ idle) (o : Operation) where
   abbrev h : Thread
   h = T x
 
@@ -42,35 +38,35 @@ module _ {n : ℕ} {p : Machine} {T : ℕ → Thread} {store : List ℕ} (S : Si
   -- nobody copies to x, whose words are zeroed
   zeroed-kept : OthersKept n T x store after
   zeroed-kept = record {
-    words = λ y yn d. ap (seems (T y)) (sym (words-zeroed-other store x y d));
+    words = λ y yn d. ap (abstraction (T y)) (sym (words-zeroed-other store x y d));
     copied = λ y yn d. copied-kept n y store after (T y) (S .formed .own y yn) (few (S .formed))
         (λ l. words-zeroed-other store x (copiesTo (T y)) (no-copier (S .formed) x xn unowned y yn)) (S .copied y yn);
   }
 
   -- the begin is allowed
   may : Can n (begins x o) p
-  unfolding inPhase cases
-  may = (xn, rests-alike S x xn (not-true (h .flags .ipc) (told-any-if h (S .formed .own x xn .flags) (λ k v r s. isOneOf (idle ∷ []) k) (λ k v r s. not (v .ipc)) refl inIdle)))
+  unfolding cases
+  may = (xn, rests-alike S x xn (not-true (h .flags .ipc) (in-phase (S .formed) x xn idle inIdle (λ v r s. not (v .ipc)) refl)))
 
   -- x copies to nobody
   calm : copiesTo h ≡ nobody
-  unfolding inPhase cases copiesTo
-  calm = rw (not-true (isOneOf (copy ∷ []) (h .phase)) (told-any-if h (S .formed .own x xn .flags) (λ k v r s. isOneOf (idle ∷ []) k) (λ k v r s. not (isOneOf (copy ∷ []) k)) refl inIdle)) refl
+  unfolding isOneOf
+  calm = copies-in (S .formed) x xn idle inIdle
 
   -- a target outside the table
   beyond-leads : targetBeyond n o ≡ true → Leads n (some (begins x o)) p (update T x (ended (codeOnly noReceiver) h)) after
-  unfolding play beginning seems copiesTo
+  unfolding play beginning abstraction copiesTo
   beyond-leads far = alone-leads S x xn after zeroed-kept (some (begins x o)) may (ended (codeOnly noReceiver) h) (beginning n o (p x)) refl
       (rw far (ap (ending (codeOnly noReceiver) []) (S .like x xn))) (copies-nowhere n after (ended (codeOnly noReceiver) h) (few (S .formed)) calm)
 
   -- else x begins alike in both machines, whatever its phase
-  begun-alike : (q : Phase) → targetBeyond n o ≡ false → beginning n o (p x) ≡ seems (begun o q h) (wordsAt after x)
-  unfolding beginning begun begunFlags seems
+  begun-alike : (q : Phase) → targetBeyond n o ≡ false → beginning n o (p x) ≡ abstraction (begun o q h) (wordsAt after x)
+  unfolding beginning begun begunFlags abstraction
   begun-alike q near = rw near refl
 
   -- with a send part
   to-send-leads : targetBeyond n o ≡ false → Leads n (some (begins x o)) p (update (update T (o .send .target) (joined x (T (o .send .target)))) x (begun o lock h)) after
-  unfolding play begun joined seems copiesTo isOneOf
+  unfolding play begun joined abstraction copiesTo isOneOf
   to-send-leads near = own-leads S x xn after zeroed-kept (some (begins x o)) may (o .send .target) (joined x (T (o .send .target))) (begun o lock h) (beginning n o (p x)) refl refl
       (begun-alike lock near) (λ k. k) (copies-nowhere n after (begun o lock h) (few (S .formed)) refl)
 
@@ -83,19 +79,11 @@ module _ {n : ℕ} {p : Machine} {T : ℕ → Thread} {store : List ℕ} (S : Si
 -- an accepted begin is its event
 pub begin-leads : (s : State) {p : Machine} → Simulates (s .table .n) p (at (s .table)) (s .store) → length (s .table .threads) ≡ 32 → (x : ℕ) (o : Operation) → AcceptedBegin s x o
     → Leads (s .table .n) (some (begins x o)) p (at (beginTable x o (s .table))) (zeroed x (s .store))
-begin-leads s S whole x o b =
-    by (targetBeyond n o)
-    (λ far. rw (target-beyond x o t far, edit-at x _ t (omega arith)) (beyond-leads S x (b .below) unowned (b .inIdle) o far))
-    (λ near. by (o .send .present)
-    (λ sends. rw (begins-to-send x o t near sends, edit-two-at x (o .send .target) (begun o lock) (joined x) t (omega arith) (omega (arith, target-near n o sends near)) (λ i. b .otherTarget sends (sym i)))
+begin-leads s {p} S whole x o b = let t = s .table in begin-cases x o t (λ after. Leads (t .n) (some (begins x o)) p (at after) (zeroed x (s .store)))
+    (λ far. rw (edit-at x (ended (codeOnly noReceiver)) t (omega arith)) (beyond-leads S x (b .below) unowned (b .inIdle) o far))
+    (λ near sends below. rw (edit-two-at x (o .send .target) (begun o lock) (joined x) t (omega arith) (omega arith) (λ i. b .otherTarget sends (sym i)))
     (to-send-leads S x (b .below) unowned (b .inIdle) o near))
-    (λ alone. rw (begins-to-receive x o t alone, edit-at x _ t (omega arith)) (to-receive-leads S x (b .below) unowned (b .inIdle) o near)))
+    (λ near alone. rw (edit-at x (begun o look) t (omega arith)) (to-receive-leads S x (b .below) unowned (b .inIdle) o near))
   where
-    t : Table
-    t = s .table
-
-    n : ℕ
-    n = s .table .n
-
-    unowned : at t x .owner ≡ nobody
-    unowned = lock-free-read (at t x) (b .free)
+    unowned : at (s .table) x .owner ≡ nobody
+    unowned = lock-free-read (at (s .table) x) (b .free)

@@ -1,6 +1,5 @@
 -- Every accepted call is its event of the atomic machine, or none, and both machines answer alike.
 use mathlib.Core.Path.{_≡_, refl, _∙_, subst}
-use mathlib.Core.Bool.{Bool, true, false, cond}
 use mathlib.Core.Option.{some}
 use mathlib.Core.List.{List}
 use Prim.Native.Nat.{ℕ, _<_}
@@ -8,22 +7,21 @@ use native.Mathlib.Omega.{arith}
 use lib.ListN.{length}
 use Rattle.model.specs.declared.Thread.{Thread}
 use Rattle.model.specs.declared.Table.{Table}
-use Rattle.model.specs.Answers.{Reply, nothingToCancel}
 use Rattle.model.specs.Lists.{update}
 use Rattle.model.specs.Threads.{at, editBelow, marked, wordsAt}
 use Rattle.model.specs.Step.{Action, stay, takeLock, abortSend, startCopy, toRelease, copyWord, finishCall, finishSend, freeTarget, retry, toIdle, abortReceive, takeSender, clearPoll, freeSender, decide}
 use Rattle.model.specs.Calls.{cancelTable, cancelReply, ticked, tickTable, Call, begin, step, cancel, tick, State, acceptedReply, acceptedState}
 use Rattle.model.specs.Refusals.{refusal}
-use Rattle.model.specs.Atomic.{AtomicReply, Machine, cancels, ticks, cancelling, ticking, play, reply}
+use Rattle.model.specs.Atomic.{Machine, cancels, ticks, cancelling, ticking, play, reply}
 use Rattle.model.specs.Linearization.{alike, AtStep, AtAccepted}
 use Rattle.model.specs.Linearized.{eventOf, acceptedEntry}
 use Rattle.model.proofs.Laws.{by}
 use Rattle.laws.proofs.Lists.{update-own}
 use Rattle.laws.proofs.Tables.{edit-at, below-at}
 use Rattle.laws.proofs.Refusals.{accepted-begin, accepted-step, accepted-cancel}
-use Rattle.laws.proofs.Calls.{cancel-marks, cancel-nothing}
+use Rattle.laws.proofs.Calls.{cancel-marks-reply, cancel-nothing-reply, cancel-cases}
 use Rattle.formed.proofs.Formed.{copiesTo}
-use Rattle.simulation.proofs.Abstraction.{runs-with-ipc, seems, CopiedBy}
+use Rattle.simulation.proofs.Abstraction.{runs-with-ipc, abstraction, CopiedBy}
 use Rattle.simulation.proofs.Leads.{Simulates, Leads, same-store, alone-leads}
 use Rattle.simulation.proofs.Conditions.{runs-alike}
 use Rattle.simulation.proofs.Steps.{step-leads}
@@ -35,31 +33,28 @@ module _ (t : Table) {p : Machine} {store : List ℕ} (S : Simulates (t .n) p (a
   h = at t x
 
   -- a cancel by which x becomes f
-  cancelled-leads : (f : Thread) → cancelling (p x) ≡ seems f (wordsAt store x) → CopiedBy (t .n) store f → Leads (t .n) (some (cancels x)) p (update (at t) x f) store
+  cancelled-leads : (f : Thread) → cancelling (p x) ≡ abstraction f (wordsAt store x) → CopiedBy (t .n) store f → Leads (t .n) (some (cancels x)) p (update (at t) x f) store
   unfolding play
   cancelled-leads f = alone-leads S x xn store (same-store S x xn) (some (cancels x)) xn f (cancelling (p x)) refl
 
   -- a cancel is its event
   pub cancel-leads : length (t .threads) ≡ 32 → Leads (t .n) (some (cancels x)) p (at (cancelTable x t)) store
-  unfolding cancelling seems copiesTo
-  cancel-leads whole = by (h .flags .ipc)
-      (λ on. rw (cancel-marks x t on, edit-at x marked t (omega arith)) (cancelled-leads (marked h) (rw (runs-alike S x xn ∙ on, S .like x xn) refl) (S .copied x xn)))
-      (λ off. rw (cancel-nothing x t off) (subst (λ (T : ℕ → Thread). Leads (t .n) (some (cancels x)) p T store) (update-own (at t) x)
-      (cancelled-leads h (rw (runs-alike S x xn ∙ off) (S .like x xn)) (S .copied x xn))))
+  unfolding cancelling abstraction copiesTo
+  cancel-leads whole = cancel-cases x t (λ after. Leads (t .n) (some (cancels x)) p (at after) store)
+      (λ on. rw (edit-at x marked t (omega arith)) (cancelled-leads (marked h) (rw (runs-alike S x xn ∙ on, S .like x xn) refl) (S .copied x xn)))
+      (λ off. subst (λ (T : ℕ → Thread). Leads (t .n) (some (cancels x)) p T store) (update-own (at t) x) (cancelled-leads h (rw (runs-alike S x xn ∙ off) (S .like x xn)) (S .copied x xn)))
 
   -- both machines answer it alike
   cancel-answers : cancelReply x t ≡ alike (reply (cancels x) p)
-  unfolding cancelReply reply
-  cancel-answers = rw (runs-alike S x xn) (answers (h .flags .ipc))
-    where
-      answers : (b : Bool) → cond b Reply.marked nothingToCancel ≡ alike (cond b AtomicReply.marked AtomicReply.nothingToCancel)
-      answers true = refl
-      answers false = refl
+  unfolding reply
+  cancel-answers = by (h .flags .ipc)
+      (λ on. cancel-marks-reply x t on ∙ rw (runs-alike S x xn ∙ on) refl)
+      (λ off. cancel-nothing-reply x t off ∙ rw (runs-alike S x xn ∙ off) refl)
 
 -- ---- tick
 -- it changes a thread alike in both machines
-ticks-alike : (h : Thread) (words : List ℕ) → ticking (seems h words) ≡ seems (ticked h) words
-unfolding ticking ticked seems
+ticks-alike : (h : Thread) (words : List ℕ) → ticking (abstraction h words) ≡ abstraction (ticked h) words
+unfolding ticking ticked abstraction
 ticks-alike h words = rw (runs-with-ipc (h .flags .ipc) (h .flags .send) (h .op)) refl
 
 -- a tick is its event

@@ -14,7 +14,7 @@ use Rattle.model.specs.Atomic.{nothing, sending, receiving, runs, AtomicThread,
 use Rattle.formed.proofs.Flags.{cases, told-any}
 use Rattle.formed.proofs.Facts.{sends-runs}
 use Rattle.formed.proofs.Neighbours.{sends-to}
-use Rattle.simulation.proofs.Abstraction.{runOf, runs-with-ipc, seems}
+use Rattle.simulation.proofs.Abstraction.{runOf, runs-with-ipc, abstraction}
 use Rattle.simulation.proofs.Leads.{Simulates}
 
 -- an operation is sent where `send` is set, and it is the thread's own
@@ -38,17 +38,17 @@ module _ {n : ℕ} {p : Machine} {T : ℕ → Thread} {store : List ℕ} (S : Si
   module _ (x : ℕ) (xn : x < n) where
     -- what runs in thread x
     run-alike : p x .run ≡ runOf (T x .flags .ipc) (T x .flags .send) (T x .op)
-    unfolding seems
+    unfolding abstraction
     run-alike = ap (λ (q : AtomicThread). q .run) (S .like x xn)
 
     -- its mark
     pub mark-alike : p x .mark ≡ T x .flags .mark
-    unfolding seems
+    unfolding abstraction
     mark-alike = ap (λ (q : AtomicThread). q .mark) (S .like x xn)
 
     -- its `left`
     pub left-alike : p x .left ≡ T x .left
-    unfolding seems
+    unfolding abstraction
     left-alike = ap (λ (q : AtomicThread). q .left) (S .like x xn)
 
     -- something runs in it, or nothing

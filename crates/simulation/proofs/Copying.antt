@@ -15,18 +15,18 @@ use Rattle.laws.proofs.Decided.{afterAction}
 use Rattle.formed.proofs.Formed.{copiesTo}
 use Rattle.formed.proofs.Neighbours.{few}
 use Rattle.formed.proofs.Receivers.{copies-to-target, receiver-count, message-short, copies-alone}
-use Rattle.simulation.proofs.Abstraction.{seems, copied-kept, copied-more}
+use Rattle.simulation.proofs.Abstraction.{abstraction, copied-kept, copied-more}
 use Rattle.simulation.proofs.Leads.{Simulates, Leads, OthersKept, none-leads}
 
 -- a thread whose count is 0 shows no words
-wordless : (h : Thread) (a b : List ℕ) → h .outcome .count ≡ 0 → seems h a ≡ seems h b
-unfolding seems
+wordless : (h : Thread) (a b : List ℕ) → h .outcome .count ≡ 0 → abstraction h a ≡ abstraction h b
+unfolding abstraction
 wordless h a b e = rw e refl
 
 -- the receiver runs and shows no words, and no other thread's words change
 pub copy-word-leads : {n : ℕ} {p : Machine} {T : ℕ → Thread} {store : List ℕ} → Simulates n p T store → (x : ℕ) → x < n
     → phaseOf (T x .phase) ≡ copy → T x .copied < T x .op .send .count → Leads n none p (afterAction copyWord T x) (wordCopied (T x) store)
-unfolding ownAfter otherAfter seems
+unfolding ownAfter otherAfter abstraction
 copy-word-leads {n} {p} {T} {store} S x xn c more =
     none-leads S x xn after kept (words x xn) (T x .op .send .target) _ (ownAfter copyWord (T x)) refl refl (λ k. k)
     (copied-more n store (T x) (S .fit) short (copies-to-target (S .formed) x xn c) (S .copied x xn))
@@ -37,10 +37,10 @@ copy-word-leads {n} {p} {T} {store} S x xn c more =
     short : T x .copied < wordLimit
     short = omega (arith, message-short (S .formed) x xn c)
 
-    words : (y : ℕ) → y < n → seems (T y) (wordsAt store y) ≡ seems (T y) (wordsAt after y)
+    words : (y : ℕ) → y < n → abstraction (T y) (wordsAt store y) ≡ abstraction (T y) (wordsAt after y)
     words y yn = same? y (T x .op .send .target)
         (λ e. wordless (T y) _ _ (rw e (receiver-count (S .formed) x xn c)))
-        (λ d. ap (seems (T y)) (sym (words-copied-other (T x) store y d short)))
+        (λ d. ap (abstraction (T y)) (sym (words-copied-other (T x) store y d short)))
 
     kept : OthersKept n T x store after
     kept = record {

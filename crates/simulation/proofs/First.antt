@@ -10,7 +10,7 @@ use Rattle.model.specs.Atomic.{firstMachine}
 use Rattle.formed.proofs.Flags.{isOneOf}
 use Rattle.formed.proofs.Formed.{copiesTo, Formed, formed-grouped}
 use Rattle.invariant.proofs.New.{new-size, new-at, new-shaped, new-well-formed}
-use Rattle.simulation.proofs.Abstraction.{seems, Copied, copies-nowhere}
+use Rattle.simulation.proofs.Abstraction.{abstraction, Copied, copies-nowhere}
 use Rattle.simulation.proofs.Leads.{Like, Simulates}
 
 -- a new thread copies to nobody
@@ -21,7 +21,7 @@ new-copies = refl
 module _ (n : ℕ) (small : n ≤ 32) (store : List ℕ) where
   -- each thread is as the atomic machine has it at first
   pub first-like : Like n firstMachine (at (newTable n)) store
-  unfolding seems newThread
+  unfolding abstraction newThread
   first-like y yn = rw (new-at n y (omega arith)) refl
 
   -- no word has been copied

@@ -13,11 +13,11 @@ use Rattle.model.specs.Linearization.{Entry, playEntry, Allowed}
 use Rattle.model.proofs.Laws.{same?}
 use Rattle.laws.proofs.Lists.{update-same, update-other, update-own}
 use Rattle.formed.proofs.Formed.{Formed}
-use Rattle.simulation.proofs.Abstraction.{seems, CopiedBy, Copied}
+use Rattle.simulation.proofs.Abstraction.{abstraction, CopiedBy, Copied}
 
 -- each thread of the table stands for its thread of the atomic machine p
 abbrev pub Like : ℕ → Machine → (ℕ → Thread) → List ℕ → Type 0
-Like n p T store = (y : ℕ) → y < n → p y ≡ seems (T y) (wordsAt store y)
+Like n p T store = (y : ℕ) → y < n → p y ≡ abstraction (T y) (wordsAt store y)
 
 -- well-formed threads T and the store of their words stand for the atomic machine p
 pub record Simulates (n : ℕ) (p : Machine) (T : ℕ → Thread) (store : List ℕ) : Type 0 where
@@ -34,7 +34,7 @@ pub record Leads (n : ℕ) (e : Entry) (p : Machine) (T : ℕ → Thread) (store
 
 -- a store that becomes `after`: no thread but x shows other words, and none loses a word that it has copied
 pub record OthersKept (n : ℕ) (T : ℕ → Thread) (x : ℕ) (store after : List ℕ) : Type 0 where
-  pub words : (y : ℕ) → y < n → y ≢ x → seems (T y) (wordsAt store y) ≡ seems (T y) (wordsAt after y)
+  pub words : (y : ℕ) → y < n → y ≢ x → abstraction (T y) (wordsAt store y) ≡ abstraction (T y) (wordsAt after y)
   pub copied : (y : ℕ) → y < n → y ≢ x → CopiedBy n after (T y)
 
 module _ {n : ℕ} {p : Machine} {T : ℕ → Thread} {store : List ℕ} (S : Simulates n p T store) (x : ℕ) (xn : x < n) where
@@ -45,7 +45,7 @@ module _ {n : ℕ} {p : Machine} {T : ℕ → Thread} {store : List ℕ} (S : Si
   module _ (after : List ℕ) (K : OthersKept n T x store after) (e : Entry) (may : Allowed n e p) where
     -- r becomes g and x becomes f, and in the atomic machine a and b
     pub both-lead : (r : ℕ) (g f : Thread) (a b : AtomicThread) → playEntry n e p ≡ update (update p r a) x b
-        → (r < n → r ≢ x → a ≡ seems g (wordsAt after r)) → b ≡ seems f (wordsAt after x) → (r < n → r ≢ x → CopiedBy n after g) → CopiedBy n after f
+        → (r < n → r ≢ x → a ≡ abstraction g (wordsAt after r)) → b ≡ abstraction f (wordsAt after x) → (r < n → r ≢ x → CopiedBy n after g) → CopiedBy n after f
         → Leads n e p (update (update T r g) x f) after
     both-lead r g f a b plays its mine itsCopied mineCopied = record { allowed = may; like = subst (λ (q : Machine). Like n q (update (update T r g) x f) after) (sym plays) like; copied = copied }
       where
@@ -65,18 +65,18 @@ module _ {n : ℕ} {p : Machine} {T : ℕ → Thread} {store : List ℕ} (S : Si
 
     -- the event is of x alone, and the atomic machine sees no change of r
     pub own-leads : (r : ℕ) (g f : Thread) (b : AtomicThread) → playEntry n e p ≡ update p x b
-        → seems g ≡ seems (T r) → b ≡ seems f (wordsAt after x) → (CopiedBy n after (T r) → CopiedBy n after g) → CopiedBy n after f
+        → abstraction g ≡ abstraction (T r) → b ≡ abstraction f (wordsAt after x) → (CopiedBy n after (T r) → CopiedBy n after g) → CopiedBy n after f
         → Leads n e p (update (update T r g) x f) after
     own-leads r g f b plays its mine itsCopied mineCopied =
         both-lead r g f (p r) b (plays ∙ ap (λ (q : Machine). update q x b) (sym (update-own p r)))
         (λ rn d. S .like r rn ∙ K .words r rn d ∙ ap (λ (shown : List ℕ → AtomicThread). shown (wordsAt after r)) (sym its)) mine (λ rn d. itsCopied (K .copied r rn d)) mineCopied
 
     -- only x changes
-    pub alone-leads : (f : Thread) (b : AtomicThread) → playEntry n e p ≡ update p x b → b ≡ seems f (wordsAt after x) → CopiedBy n after f → Leads n e p (update T x f) after
+    pub alone-leads : (f : Thread) (b : AtomicThread) → playEntry n e p ≡ update p x b → b ≡ abstraction f (wordsAt after x) → CopiedBy n after f → Leads n e p (update T x f) after
     alone-leads f b plays mine copied = subst (λ (R : ℕ → Thread). Leads n e p (update R x f) after) (update-own T x) (own-leads x (T x) f b plays refl mine (λ k. k) copied)
 
   -- nothing happens in the atomic machine
-  pub none-leads : (after : List ℕ) → OthersKept n T x store after → seems (T x) (wordsAt store x) ≡ seems (T x) (wordsAt after x) → (r : ℕ) (g f : Thread)
-      → seems g ≡ seems (T r) → seems f ≡ seems (T x) → (CopiedBy n after (T r) → CopiedBy n after g) → CopiedBy n after f → Leads n none p (update (update T r g) x f) after
+  pub none-leads : (after : List ℕ) → OthersKept n T x store after → abstraction (T x) (wordsAt store x) ≡ abstraction (T x) (wordsAt after x) → (r : ℕ) (g f : Thread)
+      → abstraction g ≡ abstraction (T r) → abstraction f ≡ abstraction (T x) → (CopiedBy n after (T r) → CopiedBy n after g) → CopiedBy n after f → Leads n none p (update (update T r g) x f) after
   none-leads after K words r g f its mine =
       own-leads after K none tt r g f (p x) (sym (update-own p x)) its (S .like x xn ∙ words ∙ ap (λ (shown : List ℕ → AtomicThread). shown (wordsAt after x)) (sym mine))

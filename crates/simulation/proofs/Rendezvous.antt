@@ -3,7 +3,7 @@ use mathlib.Core.Path.{_≡_, refl, _∙_, subst}
 use mathlib.Core.Bool.{true, false}
 use mathlib.Core.Option.{some}
 use mathlib.Core.List.{List}
-use Prim.Native.Nat.{ℕ, _+_, _*_, _≤_, _<_}
+use Prim.Native.Nat.{ℕ, _≤_, _<_}
 use native.Mathlib.Omega.{arith}
 use lib.ListN.{getD, take}
 use Rattle.model.specs.declared.Thread.{Thread}
@@ -19,7 +19,7 @@ use Rattle.formed.proofs.Facts.{sends-runs}
 use Rattle.formed.proofs.Formed.{copiesTo}
 use Rattle.formed.proofs.Neighbours.{few, sends-in-copy}
 use Rattle.formed.proofs.Receivers.{receiver-other, copies-to-target, receiver-ready, message-short}
-use Rattle.simulation.proofs.Abstraction.{seems, copies-nowhere}
+use Rattle.simulation.proofs.Abstraction.{abstraction, copies-nowhere}
 use Rattle.simulation.proofs.Leads.{Simulates, Leads, same-store, both-lead}
 use Rattle.simulation.proofs.Conditions.{sends-alike, ready-alike}
 
@@ -53,12 +53,12 @@ module _ {n : ℕ} {p : Machine} {T : ℕ → Thread} {store : List ℕ} (S : Si
           subst (λ (r : ℕ). (j : ℕ) → j < h .copied → getD store (wordPlace r j) 0 ≡ getD (h .op .send .words) j 0) to (S .copied x xn (rw to below))
 
   -- the receiver ends alike in both machines
-  receiver-alike : receiverAfter x (p x .run) (p target) ≡ seems (received x h (T target)) (wordsAt store target)
-  unfolding receiverAfter received departed seems
+  receiver-alike : receiverAfter x (p x .run) (p target) ≡ abstraction (received x h (T target)) (wordsAt store target)
+  unfolding receiverAfter received departed abstraction
   receiver-alike = rw (sends, S .like target below, message-there) refl
 
   -- x becomes f, as the sender does in the atomic machine
-  rendezvous-leads : (f : Thread) → senderAfter (p x .run) (p x) ≡ seems f (wordsAt store x) → copiesTo f ≡ nobody
+  rendezvous-leads : (f : Thread) → senderAfter (p x .run) (p x) ≡ abstraction f (wordsAt store x) → copiesTo f ≡ nobody
       → Leads n (some (rendezvous x target)) p (update (update T target (received x h (T target))) x f) store
   unfolding play received departed copiesTo
   rendezvous-leads f alike calm = both-lead S x xn store (same-store S x xn) (some (rendezvous x target)) may target (received x h (T target)) f
@@ -67,10 +67,10 @@ module _ {n : ℕ} {p : Machine} {T : ℕ → Thread} {store : List ℕ} (S : Si
 
   -- with a receive part it receives
   pub finish-call-leads : hasReceive (h .op .receive) ≡ true → Leads n (some (rendezvous x target)) p (afterAction finishCall T x) store
-  unfolding ownAfter otherAfter senderAfter seems copiesTo isOneOf
+  unfolding ownAfter otherAfter senderAfter abstraction copiesTo isOneOf
   finish-call-leads both = rendezvous-leads (ownAfter finishCall h) (rw (sends, both, S .like x xn, sends-runs (S .formed .own x xn) (sends-in-copy (S .formed) x xn c)) refl) refl
 
   -- without one it ends
   pub finish-send-leads : hasReceive (h .op .receive) ≡ false → Leads n (some (rendezvous x target)) p (afterAction finishSend T x) store
-  unfolding ownAfter otherAfter senderAfter seems copiesTo isOneOf
+  unfolding ownAfter otherAfter senderAfter abstraction copiesTo isOneOf
   finish-send-leads alone = rendezvous-leads (ownAfter finishSend h) (rw (sends, alone, S .like x xn) refl) refl

@@ -18,7 +18,7 @@ use Rattle.formed.proofs.Flags.{isOneOf}
 use Rattle.formed.proofs.Formed.{copiesTo}
 use Rattle.formed.proofs.Neighbours.{few}
 use Rattle.invariant.proofs.Steps.{act-changes}
-use Rattle.simulation.proofs.Abstraction.{seems, CopiedBy, copies-nowhere, copied-nothing}
+use Rattle.simulation.proofs.Abstraction.{abstraction, CopiedBy, copies-nowhere, copied-nothing}
 use Rattle.simulation.proofs.Leads.{Simulates, Leads, same-store, none-leads}
 use Rattle.simulation.proofs.Copying.{copy-word-leads}
 use Rattle.simulation.proofs.Aborts.{send-cancelled, send-late, receive-cancelled, receive-late, abort-send-leads, abort-receive-leads}
@@ -29,7 +29,7 @@ module _ (t : Table) {p : Machine} {store : List ℕ} (S : Simulates (t .n) p (a
   h = at t x
 
   -- an action that the atomic machine sees in neither thread
-  unseen : (a : Action) → seems (otherAfter a x h (at t (otherOf a h))) ≡ seems (at t (otherOf a h)) → seems (ownAfter a h) ≡ seems h
+  unseen : (a : Action) → abstraction (otherAfter a x h (at t (otherOf a h))) ≡ abstraction (at t (otherOf a h)) → abstraction (ownAfter a h) ≡ abstraction h
       → (CopiedBy (t .n) store (at t (otherOf a h)) → CopiedBy (t .n) store (otherAfter a x h (at t (otherOf a h)))) → CopiedBy (t .n) store (ownAfter a h)
       → Leads (t .n) none p (afterAction a (at t) x) store
   unseen a = none-leads S x xn store (same-store S x xn) refl (otherOf a h) (otherAfter a x h (at t (otherOf a h))) (ownAfter a h)
@@ -40,7 +40,7 @@ module _ (t : Table) {p : Machine} {store : List ℕ} (S : Simulates (t .n) p (a
 
   -- x goes on from release
   goes-on : (q : Phase) → GoesOn t x q → Leads (t .n) none p (afterAction (freeTarget q) (at t) x) store
-  unfolding ownAfter otherAfter seems copiesTo isOneOf
+  unfolding ownAfter otherAfter abstraction copiesTo isOneOf
   goes-on q (sending e) = unseen (freeTarget q) refl refl (λ k. k) (nowhere (freeTarget q) refl)
   goes-on q (receiving e i) = unseen (freeTarget q) refl refl (λ k. k) (nowhere (freeTarget q) refl)
   goes-on q (ended e i) = unseen (freeTarget q) refl refl (λ k. k) (nowhere (freeTarget q) refl)
@@ -57,7 +57,7 @@ module _ (t : Table) {p : Machine} {store : List ℕ} (S : Simulates (t .n) p (a
 
   -- every action that was decided is its event, or none
   action-leads : (a : Action) → TestedFor t x a → Leads (t .n) (eventOf a x h) p (afterAction a (at t) x) (storeAfter a h store)
-  unfolding ownAfter otherAfter eventOf storeAfter seems copiesTo isOneOf
+  unfolding ownAfter otherAfter eventOf storeAfter abstraction copiesTo isOneOf
   action-leads (stay a) f = unseen (stay a) refl refl (λ k. k) (S .copied x xn)
   action-leads takeLock f = unseen takeLock refl refl (λ k. k) (nowhere takeLock refl)
   action-leads (abortSend c) f = abort-send-leads S x xn c (may-abort-send c (f .1) (f .0))
