@@ -44,6 +44,7 @@ FlagsFit h = flagsFit (h .phase) (h .flags) (hasReceive (h .op .receive)) (h .op
 unfoldable pub forBoth : (Bool → Bool) → Bool
 forBoth f = f true && f false
 
+-- what holds of both holds of each
 for-both-read : (f : Bool → Bool) → forBoth f ≡ true → (b : Bool) → f b ≡ true
 unfolding forBoth
 for-both-read f e true = and-left (f true) (f false) e
@@ -62,6 +63,7 @@ unfoldable pub always : FlagTest → Bool
 always f = forBoth (λ a. forBoth (λ b. forBoth (λ c. forBoth (λ d. forBoth (λ e. forBoth (λ r. forBoth (λ s.
     f (record { ipc = a; send = b; receiving = c; poll = d; mark = e }) r s)))))))
 
+-- what holds of all flags holds of each
 always-read : (f : FlagTest) → always f ≡ true → (v : Flags) (r s : Bool) → f v r s ≡ true
 unfolding always
 always-read f t v r s =

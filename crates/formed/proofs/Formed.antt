@@ -48,10 +48,12 @@ pub record Formed (n : ℕ) (T : ℕ → Thread) : Type 0 where
 
 -- ---- the same as `WellFormed` with `Shaped`
 module _ (t : Table) (w : WellFormed t) (z : Shaped t) where
+  -- there are at most 32 threads
   small : t .n ≤ 32
   unfolding sizeInRange
   small = leb-true (t .n) 32 (and-right (leb 1 (t .n)) (leb (t .n) 32) (w .size))
 
+  -- the clause on copies, by the readings
   copies-read : Copies (t .n) (of copiesTo (at t)) (of ready (at t))
   unfolding copiesTo isOneOf copiesToReady inPhase
   copies-read x xn = by (isOneOf (copy ∷ []) (at t x .phase))
@@ -90,15 +92,18 @@ module _ (t : Table) (w : WellFormed t) (z : Shaped t) where
 
 -- a table of the right size is well-formed if its threads are
 module _ (t : Table) (size : sizeInRange (t .n) ≡ true) (F : Formed (t .n) (at t)) where
+  -- the clauses of a thread
   own-clauses : (x : ℕ) → x < t .n → Clauses (t .n) x (at t x)
   own-clauses x xn = own-ungrouped (t .n) x (at t x) (F .own x xn)
 
+  -- the clause on copies, as `WellFormed` has it
   copies-told : (x : ℕ) → x < t .n → copiesToReady t x (at t x) ≡ true
   unfolding copiesTo copiesToReady inPhase cases
   copies-told x xn = implies-made _ _ (λ (e : isOneOf (copy ∷ []) (at t x .phase) ≡ true).
       let sends : at t x .flags .send ≡ true = implies-read _ _ (told-any (at t x) (F .own x xn .flags) (λ k v r s. implies (isOneOf (copy ∷ []) k) (v .send)) refl) e in
       rw e at (F .copies x xn (rw e (target-other (F .own x xn) sends .below))))
 
+  -- the same clauses, as `WellFormed` has them
   pub formed-ungrouped : WellFormed t
   unfolding ownerOf within
   formed-ungrouped = record {

@@ -53,7 +53,7 @@ module _ (n : ℕ) (few : n ≤ nobody) (owner holds : ℕ → ℕ) where
   )
 
 -- ---- chains of owners
--- r's lock goes to v: a chain goes as before, or has come to v, or has ended; v's own lock is free, or v is nobody
+-- the lock of r goes to v, whose own lock is free, or to nobody
 module _ (owner : ℕ → ℕ) (v r : ℕ) (unowned : owner v ≡ nobody) (end : owner nobody ≡ nobody) (apart : v ≢ r) (rest : nobody ≢ r) where
   -- after v comes nobody
   after-v : (k : ℕ) → chain (update owner r v) (suc k) v ≡ nobody
@@ -61,6 +61,7 @@ module _ (owner : ℕ → ℕ) (v r : ℕ) (unowned : owner v ≡ nobody) (end :
   after-v zero = update-other owner r v v apart ∙ unowned
   after-v (suc k) = ap (update owner r v) (after-v k) ∙ update-other owner r v nobody rest ∙ end
 
+  -- a chain goes as before, or has come to v, or has ended
   chain-changed : (q k : ℕ) → (chain (update owner r v) k q ≡ chain owner k q) ⊎ ((chain (update owner r v) k q ≡ v) ⊎ (chain (update owner r v) k q ≡ nobody))
   unfolding chain
   chain-changed q zero = inl refl
@@ -86,14 +87,17 @@ module _ (owner : ℕ → ℕ) (v r : ℕ) (unowned : owner v ≡ nobody) (end :
       (chain-changed q (suc k))
 
 module _ (n : ℕ) (few : n ≤ nobody) (owner : ℕ → ℕ) where
+  -- of a thread of the table
   within-in : (r : ℕ) → r < n → within n owner r ≡ owner r
   unfolding within
   within-in r rn = rw (lt-ltb r n rn) refl
 
+  -- of nobody, nobody
   within-end : within n owner nobody ≡ nobody
   unfolding within
   within-end = rw (le-ltb nobody n few) refl
 
+  -- a change of a thread of the table
   within-update : (r v : ℕ) → r < n → within n (update owner r v) ≡ update (within n owner) r v
   unfolding within
   within-update r v rn = fun-ext (λ y. same? y r

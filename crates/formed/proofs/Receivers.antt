@@ -27,9 +27,11 @@ running-count n u e =
     eqb-true (u .count) 0 (and-right (eqb (u .source) nobody) (eqb (u .count) 0) (rw (sym is) at bare))
 
 module _ {n : ℕ} {T : ℕ → Thread} (F : Formed n T) (x : ℕ) (xn : x < n) (c : phaseOf (T x .phase) ≡ copy) where
+  -- the thread
   abbrev h : Thread
   h = T x
 
+  -- its target
   abbrev target : ℕ
   target = T x .op .send .target
 

@@ -73,6 +73,7 @@ sending-busy true = refl
 sending-busy false = refl
 
 module _ {n : ℕ} {T : ℕ → Thread} (F : Formed n T) (x : ℕ) (xn : x < n) (unowned : T x .owner ≡ nobody) where
+  -- the thread that begins or is cancelled
   abbrev h : Thread
   h = T x
 
@@ -154,6 +155,7 @@ unfolding operationFits
 fallen n x ipc o left now fits e = let (sends, (receives, (time, (target, (partner, end))))) = all-of-read _ e in
     all-of-made _ (sends and receives and implies-made ipc _ (λ i. fits i (implies-read _ _ time i)) and target and partner and tt)
 
+-- of one thread
 tick-one-keeps : (n : ℕ) (T : ℕ → Thread) (F : Formed n T) (x : ℕ) → x < n → Formed n (update T x (ticked (T x)))
 unfolding ticked readings
 tick-one-keeps n T F x xn =

@@ -53,6 +53,7 @@ pub wake-fits : (n x : ℕ) (part : SendPart) (copied waking : ℕ) → waking <
 unfolding phaseFits cases
 wake-fits n x part copied waking l = rw (lt-ltb waking n l) refl
 
+-- and in unlock
 pub unlock-fits : (n x : ℕ) (part : SendPart) (copied waking : ℕ) → waking < n → phaseFits n x (phaseNumber unlock) part copied waking ≡ true
 unfolding phaseFits cases
 unlock-fits n x part copied waking l = rw (lt-ltb waking n l) refl

@@ -29,20 +29,25 @@ use Rattle.formed.proofs.Receivers.{receiver-ready, copies-alone}
 use Rattle.invariant.proofs.Changed.{kept, here, there, both, formed-changed}
 
 module _ {n : ℕ} {T : ℕ → Thread} (F : Formed n T) (x : ℕ) (xn : x < n) where
+  -- the thread that steps
   abbrev h : Thread
   h = T x
 
+  -- its target
   abbrev target : ℕ
   target = T x .op .send .target
 
   -- ---- x, which sends, leaves its target's queue
   module _ (sends : h .flags .send ≡ true) where
+    -- it stands in that queue
     queued : 1 ≤ occurs x (senders (T target))
     queued = queued-at-target F x xn sends
 
+    -- its target is another thread of the table
     to : Other n x target
     to = target-other (F .own x xn) sends
 
+    -- the clause on queues, once it has left
     left-queues : (now : ℕ → Bool) → ((u : ℕ) → now u ≡ false) → Queues n (update (of sendsTo T) x now) (update (of senders T) target (senders (departed x (T target))))
     left-queues now silent =
         let w : Own n target (T target) = F .own target (to .below) in
@@ -99,6 +104,7 @@ module _ {n : ℕ} {T : ℕ → Thread} (F : Formed n T) (x : ℕ) (xn : x < n) 
 
   -- ---- copy: its message is delivered, with a receive part or without
   module _ (p : phaseOf (h .phase) ≡ copy) (unowned : h .owner ≡ nobody) where
+    -- it sends
     sends : h .flags .send ≡ true
     sends = sends-in-copy F x xn p
 

@@ -21,20 +21,25 @@ use Rattle.formed.proofs.Neighbours.{target-in-lock, quiet-in-look, few, copies
 use Rattle.invariant.proofs.Changed.{kept, here, there, formed-changed}
 
 module _ {n : ℕ} {T : ℕ → Thread} (F : Formed n T) (x : ℕ) (xn : x < n) where
+  -- the thread that steps
   abbrev h : Thread
   h = T x
 
+  -- its target
   abbrev target : ℕ
   target = T x .op .send .target
 
   -- ---- x takes a lock that nobody owns
   module _ (r : ℕ) (other : Other n x r) (unowned : h .owner ≡ nobody) (free : T r .owner ≡ nobody) (empty : lockHeld h ≡ nobody) where
+    -- the clause on owners
     taken-owners : Owners n (update (of owner T) r x) (update (of lockHeld T) x r)
     taken-owners = owners-take n (few F) (of owner T) (of lockHeld T) x r xn (other .below) free empty (F .owners)
 
+    -- the clause on chains
     taken-chains : Chains n (update (of owner T) r x)
     taken-chains = chains-take n (few F) (of owner T) x r xn (other .below) unowned (λ e. other .apart (sym e)) (F .chains)
 
+    -- the other thread by itself
     taken-other : r < n → Own n r (withOwner x (T r))
     taken-other rn = own-owner (F .own r rn) x (owner-below n x xn)
 
@@ -115,6 +120,7 @@ module _ {n : ℕ} {T : ℕ → Thread} (F : Formed n T) (x : ℕ) (xn : x < n) 
 
   -- release: of its target, and it goes on by its flags
   module _ (p : phaseOf (h .phase) ≡ release) where
+    -- it frees its target and goes to phase q
     released : (q : Phase) → FlagsFit (entering q h) → lockHeld (entering q h) ≡ nobody → copiesTo (entering q h) ≡ nobody
         → phaseFits n x (phaseNumber q) (h .op .send) (h .copied) (h .waking) ≡ true → Formed n (afterAction (freeTarget q) T x)
     unfolding ownAfter otherAfter cases

@@ -17,9 +17,11 @@ use Rattle.formed.proofs.Neighbours.{target-in-check, number, copies-in, woken-
 use Rattle.invariant.proofs.Changed.{kept, here, formed-changed}
 
 module _ {n : ℕ} {T : ℕ → Thread} (F : Formed n T) (x : ℕ) (xn : x < n) where
+  -- the thread that steps
   abbrev h : Thread
   h = T x
 
+  -- its target
   abbrev target : ℕ
   target = T x .op .send .target
 

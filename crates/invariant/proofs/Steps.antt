@@ -58,16 +58,19 @@ module _ (t : Table) (F : Formed (t .n) (at t)) (x : ℕ) (xn : x < t .n) where
   stay-keeps a = rw (update-own (at t) (other (at t x)), update-own (at t) x) F
 
   module _ (unowned : at t x .owner ≡ nobody) where
+    -- check: each reason to abort a send
     aborts-send : (c : ℤ) → AbortsSend t x c → phaseOf (at t x .phase) ≡ check → Formed (t .n) (afterAction (abortSend c) (at t) x)
     unfolding isCode
     aborts-send c (AbortsSend.cancelled e) p = abort-send-keeps F x xn sendCancelled refl refl p
     aborts-send c (AbortsSend.late e f g) p = abort-send-keeps F x xn sendTimeOver refl refl p
 
+    -- look: each reason to abort a receive
     aborts-receive : (c : ℤ) → AbortsReceive t x c → phaseOf (at t x .phase) ≡ look → Formed (t .n) (afterAction (abortReceive c) (at t) x)
     unfolding isCode
     aborts-receive c (AbortsReceive.cancelled e) p = abort-receive-keeps F x xn receiveCancelled refl refl p unowned
     aborts-receive c (AbortsReceive.late e f g) p = abort-receive-keeps F x xn receiveTimeOver refl refl p unowned
 
+    -- release: each phase to go on to
     goes-on : (q : Phase) → GoesOn t x q → phaseOf (at t x .phase) ≡ release → Formed (t .n) (afterAction (freeTarget q) (at t) x)
     goes-on q (sending e) p = release-to-sleep-keeps F x xn p e
     goes-on q (receiving e f) p = release-to-look-keeps F x xn p e

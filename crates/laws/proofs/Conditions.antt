@@ -1,26 +1,30 @@
--- What a replay compares holds as a test where it holds: the conditions of an event, answers and views.
-use mathlib.Core.Path.{_≡_, refl, sym, ap, subst}
-use mathlib.Core.Bool.{true≢false, true, false, not}
+-- The conditions of an atomic event and the test for them are the same.
+use mathlib.Core.Path.{_≡_, refl, sym, subst}
+use mathlib.Core.Logic.{_↔_}
+use mathlib.Core.Bool.{true≢false, true, false, not, _&&_}
 use mathlib.Core.Option.{none, some}
-use mathlib.Core.List.{List, [], _∷_}
 use Prim.Native.Nat.{ℕ}
+use lib.Dec.{eqb}
 use lib.IntN.{ℤ}
-use borrow.Author.Tests.{eqb-true, eq-eqb, lt-ltb}
-use Rattle.model.specs.Answers.{Said, refused, replied}
-use Rattle.model.specs.Calls.{Call, begin, step, cancel, tick}
-use Rattle.model.specs.Shared.{View}
-use Rattle.model.specs.Atomic.{Run, nothing, sending, receiving, Machine, Event, begins, cancels, ticks, rendezvous, aborts, runs, QueuedAt, acceptsIn, NoneAcceptable, CanAbort, Can}
-use Rattle.model.specs.Linearization.{Entry, Allowed, AtCall}
-use Rattle.model.proofs.Replay.{sendsNowTo, noneAcceptable, abortTest, canTest, allowedTest, sameWords, sameView, replyNumber, answerTest}
-use Rattle.laws.proofs.Codes.{code-itself}
-use Rattle.model.proofs.Laws.{implies-made, _and_, all-of-made, all-below-made}
+use borrow.Author.Tests.{eqb-true, eq-eqb, lt-ltb, ltb-true, not-true}
+use Rattle.model.specs.Shared.{sameCode, sendCancelled, sendTimeOver, receiveCancelled, receiveTimeOver}
+use Rattle.model.specs.Atomic.{Run, nothing, sending, receiving, Machine, Event, begins, cancels, ticks, rendezvous, aborts, runs, QueuedAt, acceptsIn, NoneAcceptable, CanAbort, Can, readyFor}
+use Rattle.model.specs.Linearization.{Entry, Allowed}
+use Rattle.model.proofs.Replay.{sendsNowTo, noneAcceptable, abortTest, canTest, allowedTest}
+use Rattle.laws.proofs.Codes.{code-is}
+use Rattle.model.proofs.Laws.{implies-made, _and_, all-of-made, all-below-made, by, and-left, and-right, implies-read, all-of-read, all-below-read}
 
--- ---- conditions
 -- what runs is a send to r, by the test
 queued-read : (p : Machine) (s r : ℕ) (run : Run) → p s .run ≡ run → sendsNowTo run r ≡ true → QueuedAt p s r
 queued-read p s r nothing i e = absurd (true≢false (sym e))
 queued-read p s r (sending o) i e = record { operation = o; runs = i; target = eqb-true (o .send .target) r e }
 queued-read p s r (receiving w) i e = absurd (true≢false (sym e))
+
+-- what does not run is nothing
+runs-nothing : (run : Run) → runs run ≡ false → run ≡ nothing
+runs-nothing nothing e = refl
+runs-nothing (sending o) e = absurd (true≢false e)
+runs-nothing (receiving w) e = absurd (true≢false e)
 
 module _ (n : ℕ) (p : Machine) where
   -- a queued sender sends now
@@ -31,6 +35,11 @@ module _ (n : ℕ) (p : Machine) where
   none-tested : (r : ℕ) → NoneAcceptable n p r → noneAcceptable n p r ≡ true
   unfolding noneAcceptable
   none-tested r h = all-below-made n _ (λ s sn. implies-made (sendsNowTo (p s .run) r) (not (acceptsIn (p r .run) s)) (λ e. rw (h s sn (queued-read p s r (p s .run) refl e)) refl))
+
+  -- and back
+  none-read : (r : ℕ) → noneAcceptable n p r ≡ true → NoneAcceptable n p r
+  unfolding noneAcceptable
+  none-read r e s sn q = not-true (acceptsIn (p r .run) s) (implies-read _ _ (all-below-read n _ e s sn) (queued-tested s r q))
 
   -- an abort
   abort-tested : (x : ℕ) (c : ℤ) → CanAbort n p x c → abortTest n p x c (p x .run) ≡ true
@@ -49,34 +58,40 @@ module _ (n : ℕ) (p : Machine) where
   can-tested (rendezvous s r) h = all-of-made _ (lt-ltb s n (h .0) and lt-ltb r n (h .1) and queued-tested s r (h .2) and h .3 and tt)
   can-tested (aborts x c) h = all-of-made _ (lt-ltb x n (h .0) and abort-tested x c (h .1) and tt)
 
+  -- where the test for an abort holds, it is allowed
+  abort-read : (x : ℕ) (c : ℤ) (run : Run) → p x .run ≡ run → abortTest n p x c run ≡ true → CanAbort n p x c
+  unfolding abortTest
+  abort-read x c nothing i e = absurd (true≢false (sym e))
+  abort-read x c (sending o) i e =
+      let ready = readyFor p (o .send .target) x in
+      by (sameCode c sendCancelled && p x .mark)
+      (λ f. subst (CanAbort n p x) (sym (code-is c sendCancelled (and-left _ _ f))) (CanAbort.cancelledSending o i (and-right (sameCode c sendCancelled) (p x .mark) f)))
+      (λ f. let g : (sameCode c sendTimeOver && (eqb (p x .left) 0 && not ready)) ≡ true = rw f at e in
+      let late : (eqb (p x .left) 0 && not ready) ≡ true = and-right (sameCode c sendTimeOver) _ g in
+      subst (CanAbort n p x) (sym (code-is c sendTimeOver (and-left (sameCode c sendTimeOver) _ g)))
+      (CanAbort.lateSending o i (eqb-true (p x .left) 0 (and-left _ (not ready) late)) (not-true ready (and-right (eqb (p x .left) 0) _ late))))
+  abort-read x c (receiving w) i e =
+      by (sameCode c receiveCancelled && p x .mark)
+      (λ f. subst (CanAbort n p x) (sym (code-is c receiveCancelled (and-left _ _ f))) (CanAbort.cancelledReceiving w i (and-right (sameCode c receiveCancelled) (p x .mark) f)))
+      (λ f. let g : (sameCode c receiveTimeOver && (eqb (p x .left) 0 && noneAcceptable n p x)) ≡ true = rw f at e in
+      let late : (eqb (p x .left) 0 && noneAcceptable n p x) ≡ true = and-right (sameCode c receiveTimeOver) _ g in
+      subst (CanAbort n p x) (sym (code-is c receiveTimeOver (and-left (sameCode c receiveTimeOver) _ g)))
+      (CanAbort.lateReceiving w i (eqb-true (p x .left) 0 (and-left _ (noneAcceptable n p x) late)) (none-read x (and-right (eqb (p x .left) 0) _ late))))
+
+  -- where the test for an event holds, its conditions do
+  can-read : (e : Event) → canTest n e p ≡ true → Can n e p
+  unfolding canTest
+  can-read (begins x o) t = let (below, (rests, end)) = all-of-read _ t in (ltb-true x n below, runs-nothing (p x .run) (not-true (runs (p x .run)) rests))
+  can-read (cancels x) t = ltb-true x n t
+  can-read ticks t = tt
+  can-read (rendezvous s r) t = let (sn, (rn, (sends, (ready, end)))) = all-of-read _ t in (ltb-true s n sn, ltb-true r n rn, queued-read p s r (p s .run) refl sends, ready)
+  can-read (aborts x c) t = let (below, (abort, end)) = all-of-read _ t in (ltb-true x n below, abort-read x c (p x .run) refl abort)
+
+  -- the conditions of an event and their test are the same
+  pub can-same : (e : Event) → (Can n e p) ↔ (canTest n e p ≡ true)
+  can-same e = (can-tested e, can-read e)
+
   -- every entry
   pub allowed-tested : (e : Entry) → Allowed n e p → allowedTest n e p ≡ true
   allowed-tested none h = refl
   allowed-tested (some e) h = can-tested e h
-
--- ---- answers
--- an entry that may stand in a call's place is answered alike
-pub placed-tested : (c : Call) (a : Said) (e : Entry) (p : Machine) → AtCall c a e p → answerTest e a p ≡ true
-placed-tested c (refused g) e p h = rw h refl
-placed-tested (begin x o) (replied a) e p h = rw (h .event) (eq-eqb _ _ (ap replyNumber (h .answer)))
-placed-tested (step x) (replied a) none p h = refl
-placed-tested (step x) (replied a) (some (begins y o)) p h = absurd h
-placed-tested (step x) (replied a) (some (cancels y)) p h = absurd h
-placed-tested (step x) (replied a) (some ticks) p h = absurd h
-placed-tested (step x) (replied a) (some (rendezvous s r)) p h = refl
-placed-tested (step x) (replied a) (some (aborts y c)) p h = refl
-placed-tested (cancel x) (replied a) e p h = rw (h .event) (eq-eqb _ _ (ap replyNumber (h .answer)))
-placed-tested tick (replied a) e p h = rw (h .event) (eq-eqb _ _ (ap replyNumber (h .answer)))
-
--- ---- views
--- words are the same as themselves
-words-themselves : (q : List ℕ) → sameWords q q ≡ true
-unfolding sameWords
-words-themselves [] = refl
-words-themselves (a ∷ q) = rw (eq-eqb a a refl) (words-themselves q)
-
--- views that are equal pass the test
-pub view-tested : (v w : View) → v ≡ w → sameView v w ≡ true
-unfolding sameView
-view-tested v w e = subst (λ (u : View). sameView v u ≡ true) e (all-of-made _ (
-    code-itself (v .outcome .code) and eq-eqb (v .outcome .source) _ refl and eq-eqb (v .outcome .count) _ refl and words-themselves (v .words) and tt))

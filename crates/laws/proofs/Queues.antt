@@ -18,6 +18,7 @@ module _ (s : ℕ) (h : Thread) (whole : length (h .queue .items) ≡ 32) where
   senders-length few = length-take-le (h .queue .len) (h .queue .items) (omega arith)
 
   module _ (few : h .queue .len ≤ 32) (there : 1 ≤ occurs s (senders h)) where
+    -- without one sender, one less waits
     one-less : length (without s (senders h)) ≡ h .queue .len - 1
     one-less = length-one-less s (senders h) there ∙ ap (λ (k : ℕ). k - 1) (senders-length few)
 

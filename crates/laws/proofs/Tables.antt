@@ -105,6 +105,7 @@ module _ (f : Thread → Thread) (t : Table) where
 
 -- ---- the action of a step
 module _ (a : Action) (x : ℕ) (t : Table) where
+  -- the other thread afterwards
   abbrev otherNow : Thread
   otherNow = otherAfter a x (at t x) (at t (other (at t x)))
 

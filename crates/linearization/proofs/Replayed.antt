@@ -13,7 +13,8 @@ use Rattle.model.specs.Linearized.{entry}
 use Rattle.model.proofs.Replay.{agree}
 use Rattle.model.proofs.Laws.{_and_, all-of-made, all-below-made}
 use Rattle.model.proofs.Tested.{well-formed-tested}
-use Rattle.laws.proofs.Conditions.{allowed-tested, placed-tested, view-tested}
+use Rattle.laws.proofs.Conditions.{allowed-tested}
+use Rattle.laws.proofs.Compared.{placed-tested, view-tested}
 use Rattle.linearization.proofs.Represents.{Represents, first-represents, call-simulated}
 use Rattle.linearization.proofs.Demand.{represents-shown}
 

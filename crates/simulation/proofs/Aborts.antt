@@ -22,6 +22,7 @@ use Rattle.simulation.proofs.Leads.{Simulates, Leads, same-store, own-l
 use Rattle.simulation.proofs.Conditions.{mark-alike, left-alike, sends-alike, receives-alike, ready-alike, queued-alike}
 
 module _ {n : ℕ} {p : Machine} {T : ℕ → Thread} {store : List ℕ} (S : Simulates n p T store) (x : ℕ) (xn : x < n) where
+  -- the thread that steps
   abbrev h : Thread
   h = T x
 

@@ -29,9 +29,11 @@ use Rattle.simulation.proofs.Conditions.{rests-alike}
 -- thread x, in idle and with a free lock, begins o
 module _ {n : ℕ} {p : Machine} {T : ℕ → Thread} {store : List ℕ} (S : Simulates n p T store) (x : ℕ) (xn : x < n)
     (unowned : T x .owner ≡ nobody) (inIdle : phaseOf (T x .phase) ≡ idle) (o : Operation) where
+  -- the thread that begins
   abbrev h : Thread
   h = T x
 
+  -- the store afterwards
   abbrev after : List ℕ
   after = zeroed x store
 

@@ -29,6 +29,7 @@ use Rattle.simulation.proofs.Begins.{begin-leads}
 
 -- ---- cancel
 module _ (t : Table) {p : Machine} {store : List ℕ} (S : Simulates (t .n) p (at t) store) (x : ℕ) (xn : x < t .n) where
+  -- the thread that is cancelled
   abbrev h : Thread
   h = at t x
 

@@ -26,9 +26,11 @@ use Rattle.simulation.proofs.Conditions.{sends-alike, ready-alike}
 -- thread x is in copy and has copied its whole message
 module _ {n : ℕ} {p : Machine} {T : ℕ → Thread} {store : List ℕ} (S : Simulates n p T store) (x : ℕ) (xn : x < n)
     (c : phaseOf (T x .phase) ≡ copy) (all : T x .op .send .count ≤ T x .copied) where
+  -- the sender
   abbrev h : Thread
   h = T x
 
+  -- its target, the receiver
   abbrev target : ℕ
   target = T x .op .send .target
 

@@ -25,6 +25,7 @@ use Rattle.simulation.proofs.Aborts.{send-cancelled, send-late, receive
 use Rattle.simulation.proofs.Rendezvous.{finish-call-leads, finish-send-leads}
 
 module _ (t : Table) {p : Machine} {store : List ℕ} (S : Simulates (t .n) p (at t) store) (x : ℕ) (xn : x < t .n) where
+  -- the thread that steps
   abbrev h : Thread
   h = at t x
 
