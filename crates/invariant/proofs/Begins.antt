@@ -97,7 +97,14 @@ module _ {n : ℕ} {T : ℕ → Thread} (F : Formed n T) (x : ℕ) (xn : x < n) 
         let f : Thread = begun o lock h in
         let room = queue-room F x r xn rn quiet in
         formed-changed F x r f (joined x (T r))
-        (record { owner = kept refl refl; held = kept refl (sym (lock-held-in h idle rest)); sends = here refl; queue = there (l .target sends) refl; copies = kept refl (sym (copies-in F x xn idle rest)); ready = kept refl (never-ready f (rw sends (sending-busy (hasReceive (o .receive)))) ∙ sym not-waiting) })
+        (record {
+          owner = kept refl refl;
+          held = kept refl (sym (lock-held-in h idle rest));
+          sends = here refl;
+          queue = there (l .target sends) refl;
+          copies = kept refl (sym (copies-in F x xn idle rest));
+          ready = kept refl (never-ready f (rw sends (sending-busy (hasReceive (o .receive)))) ∙ sym not-waiting);
+        })
         (record {
           other = λ rn. own-joined (F .own r rn) x room;
           own = begun-own n x h o lock (F .own x xn) l (rw sends (lock-flags (hasReceive (o .receive)))) refl;
@@ -113,8 +120,22 @@ module _ {n : ℕ} {T : ℕ → Thread} (F : Formed n T) (x : ℕ) (xn : x < n) 
     unfolding begun begunFlags readings cases phaseFits
     begin-receive-keeps o l none receives =
         formed-one F x (begun o look h)
-        (record { owner = kept refl refl; held = kept refl (sym (lock-held-in h idle rest)); sends = kept refl (fun-ext (λ u. rw none refl) ∙ sym (silent h quiet)); queue = kept refl refl; copies = kept refl (sym (copies-in F x xn idle rest)); ready = here refl })
-        (record { other = F .own x; own = begun-own n x h o look (F .own x xn) l (rw (none, receives) refl) refl; queues = F .queues; owners = F .owners; chains = F .chains; copies = copies-free n (of copiesTo T) (of ready T) x _ (no-copier F x xn unowned) (F .copies) })
+        (record {
+          owner = kept refl refl;
+          held = kept refl (sym (lock-held-in h idle rest));
+          sends = kept refl (fun-ext (λ u. rw none refl) ∙ sym (silent h quiet));
+          queue = kept refl refl;
+          copies = kept refl (sym (copies-in F x xn idle rest));
+          ready = here refl;
+        })
+        (record {
+          other = F .own x;
+          own = begun-own n x h o look (F .own x xn) l (rw (none, receives) refl) refl;
+          queues = F .queues;
+          owners = F .owners;
+          chains = F .chains;
+          copies = copies-free n (of copiesTo T) (of ready T) x _ (no-copier F x xn unowned) (F .copies);
+        })
 
     -- to a target that does not exist
     pub begin-beyond-keeps : Formed n (update T x (ended (codeOnly noReceiver) h))
@@ -122,7 +143,14 @@ module _ {n : ℕ} {T : ℕ → Thread} (F : Formed n T) (x : ℕ) (xn : x < n) 
     begin-beyond-keeps =
         formed-one F x (ended (codeOnly noReceiver) h)
         (record { owner = kept refl refl; held = kept refl refl; sends = kept refl (sym (silent h quiet)); queue = kept refl refl; copies = kept refl refl; ready = here refl })
-        (record { other = F .own x; own = own-ended (F .own x xn) quiet _ (bare-fits n noReceiver refl refl); queues = F .queues; owners = F .owners; chains = F .chains; copies = copies-free n (of copiesTo T) (of ready T) x _ (no-copier F x xn unowned) (F .copies) })
+        (record {
+          other = F .own x;
+          own = own-ended (F .own x xn) quiet _ (bare-fits n noReceiver refl refl);
+          queues = F .queues;
+          owners = F .owners;
+          chains = F .chains;
+          copies = copies-free n (of copiesTo T) (of ready T) x _ (no-copier F x xn unowned) (F .copies);
+        })
 
   -- ---- cancel of a running operation
   pub cancel-keeps : h .flags .ipc ≡ true → Formed n (update T x (marked h))

@@ -62,7 +62,14 @@ module _ {n : ℕ} {T : ℕ → Thread} (F : Formed n T) (x : ℕ) (xn : x < n) 
       let sends : h .flags .send ≡ true = sends-in-check F x xn p in
       let busy : (h .flags .ipc && h .flags .receiving && not (h .flags .send)) ≡ false = not-true _ (in-phase F x xn check p (λ v r s. not (v .ipc && v .receiving && not (v .send))) refl) in
       formed-changed F x target (ownAfter (abortSend c) h) (otherAfter (abortSend c) x h (T target))
-      (record { owner = kept refl refl; held = kept refl (sym (lock-held-in h check p)); sends = here refl; queue = there (to sends .apart) refl; copies = kept refl (sym (copies-in F x xn check p)); ready = kept refl (never-ready (ownAfter (abortSend c) h) refl ∙ sym (never-ready h busy)) })
+      (record {
+        owner = kept refl refl;
+        held = kept refl (sym (lock-held-in h check p));
+        sends = here refl;
+        queue = there (to sends .apart) refl;
+        copies = kept refl (sym (copies-in F x xn check p));
+        ready = kept refl (never-ready (ownAfter (abortSend c) h) refl ∙ sym (never-ready h busy));
+      })
       (record {
         other = λ rn. own-departed (F .own target rn) x (queued sends);
         own = record {
@@ -85,7 +92,14 @@ module _ {n : ℕ} {T : ℕ → Thread} (F : Formed n T) (x : ℕ) (xn : x < n) 
   abort-receive-keeps c known over p unowned =
       let w : Own n x h = F .own x xn in
       formed-changed F x (otherOf (abortReceive c) h) (ownAfter (abortReceive c) h) (otherAfter (abortReceive c) x h (T (otherOf (abortReceive c) h)))
-      (record { owner = kept refl refl; held = kept refl (sym (lock-held-in h look p)); sends = kept refl (sym (silent h (quiet-in-look F x xn p))); queue = kept refl refl; copies = kept refl (sym (copies-in F x xn look p)); ready = here refl })
+      (record {
+        owner = kept refl refl;
+        held = kept refl (sym (lock-held-in h look p));
+        sends = kept refl (sym (silent h (quiet-in-look F x xn p)));
+        queue = kept refl refl;
+        copies = kept refl (sym (copies-in F x xn look p));
+        ready = here refl;
+      })
       (record {
         other = F .own (otherOf (abortReceive c) h);
         own = record {
@@ -136,7 +150,14 @@ module _ {n : ℕ} {T : ℕ → Thread} (F : Formed n T) (x : ℕ) (xn : x < n) 
     finish-call-keeps receives =
         let w : Own n x h = F .own x xn in
         formed-changed F x target (ownAfter finishCall h) (otherAfter finishCall x h (T target))
-        (record { owner = kept refl refl; held = kept refl (sym (lock-held-in h copy p)); sends = here receiver-silent; queue = there (to sends .apart) refl; copies = here refl; ready = both })
+        (record {
+          owner = kept refl refl;
+          held = kept refl (sym (lock-held-in h copy p));
+          sends = here receiver-silent;
+          queue = there (to sends .apart) refl;
+          copies = here refl;
+          ready = both;
+        })
         (record {
           other = own-received;
           own = record {
@@ -159,7 +180,14 @@ module _ {n : ℕ} {T : ℕ → Thread} (F : Formed n T) (x : ℕ) (xn : x < n) 
     finish-send-keeps =
         let w : Own n x h = F .own x xn in
         formed-changed F x target (ownAfter finishSend h) (otherAfter finishSend x h (T target))
-        (record { owner = kept refl refl; held = kept refl (sym (lock-held-in h copy p)); sends = here receiver-silent; queue = there (to sends .apart) refl; copies = here refl; ready = both })
+        (record {
+          owner = kept refl refl;
+          held = kept refl (sym (lock-held-in h copy p));
+          sends = here receiver-silent;
+          queue = there (to sends .apart) refl;
+          copies = here refl;
+          ready = both;
+        })
         (record {
           other = own-received;
           own = record {

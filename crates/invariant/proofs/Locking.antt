@@ -51,7 +51,14 @@ module _ {n : ℕ} {T : ℕ → Thread} (F : Formed n T) (x : ℕ) (xn : x < n) 
       let r : Other n x target = target-in-lock F x xn p in
       let empty : lockHeld h ≡ nobody = lock-held-in h lock p in
       formed-changed F x target (ownAfter takeLock h) (otherAfter takeLock x h (T target))
-      (record { owner = there (r .apart) refl; held = here refl; sends = kept refl refl; queue = kept refl refl; copies = kept refl (sym (copies-in F x xn lock p)); ready = kept refl refl })
+      (record {
+        owner = there (r .apart) refl;
+        held = here refl;
+        sends = kept refl refl;
+        queue = kept refl refl;
+        copies = kept refl (sym (copies-in F x xn lock p));
+        ready = kept refl refl;
+      })
       (record {
         other = taken-other target r unowned free empty;
         own = record {
@@ -83,7 +90,14 @@ module _ {n : ℕ} {T : ℕ → Thread} (F : Formed n T) (x : ℕ) (xn : x < n) 
       let r : Other n x s = queued-other s p queued in
       let empty : lockHeld h ≡ nobody = lock-held-in h look p in
       formed-changed F x s (ownAfter (takeSender s) h) (otherAfter (takeSender s) x h (T s))
-      (record { owner = there (r .apart) refl; held = here refl; sends = kept refl refl; queue = kept refl refl; copies = kept refl (sym (copies-in F x xn look p)); ready = kept refl refl })
+      (record {
+        owner = there (r .apart) refl;
+        held = here refl;
+        sends = kept refl refl;
+        queue = kept refl refl;
+        copies = kept refl (sym (copies-in F x xn look p));
+        ready = kept refl refl;
+      })
       (record {
         other = taken-other s r unowned free empty;
         own = record {
@@ -107,7 +121,14 @@ module _ {n : ℕ} {T : ℕ → Thread} (F : Formed n T) (x : ℕ) (xn : x < n) 
   unfolding readings nobodyOrBelow
   freed-keeps r other has calm q flags empty still fits =
       formed-changed F x r (entering q h) (withOwner nobody (T r))
-      (record { owner = there (other .apart) refl; held = here refl; sends = kept refl refl; queue = kept refl refl; copies = kept refl (still ∙ sym calm); ready = kept refl refl })
+      (record {
+        owner = there (other .apart) refl;
+        held = here refl;
+        sends = kept refl refl;
+        queue = kept refl refl;
+        copies = kept refl (still ∙ sym calm);
+        ready = kept refl refl;
+      })
       (record {
         other = λ rn. own-owner (F .own r rn) nobody refl;
         own = own-entering (F .own x xn) q flags fits;

@@ -31,7 +31,14 @@ module _ {n : ℕ} {T : ℕ → Thread} (F : Formed n T) (x : ℕ) (xn : x < n) 
   start-copy-keeps p now =
       let w : Own n x h = F .own x xn in
       formed-changed F x target (ownAfter startCopy h) (otherAfter startCopy x h (T target))
-      (record { owner = kept refl refl; held = kept refl (sym (lock-held-in h check p)); sends = kept refl refl; queue = kept refl refl; copies = here refl; ready = kept refl refl })
+      (record {
+        owner = kept refl refl;
+        held = kept refl (sym (lock-held-in h check p));
+        sends = kept refl refl;
+        queue = kept refl refl;
+        copies = here refl;
+        ready = kept refl refl;
+      })
       (record {
         other = F .own target;
         own = record {
@@ -54,7 +61,14 @@ module _ {n : ℕ} {T : ℕ → Thread} (F : Formed n T) (x : ℕ) (xn : x < n) 
   to-release-keeps p =
       let w : Own n x h = F .own x xn in
       formed-changed F x target (ownAfter toRelease h) (otherAfter toRelease x h (T target))
-      (record { owner = kept refl refl; held = kept refl (sym (lock-held-in h check p)); sends = kept refl refl; queue = kept refl refl; copies = kept refl (sym (copies-in F x xn check p)); ready = kept refl refl })
+      (record {
+        owner = kept refl refl;
+        held = kept refl (sym (lock-held-in h check p));
+        sends = kept refl refl;
+        queue = kept refl refl;
+        copies = kept refl (sym (copies-in F x xn check p));
+        ready = kept refl refl;
+      })
       (record {
         other = F .own target;
         own = own-entering w release (in-phase F x xn check p (fitsIn release) refl)
@@ -93,23 +107,58 @@ module _ {n : ℕ} {T : ℕ → Thread} (F : Formed n T) (x : ℕ) (xn : x < n) 
   unfolding ownAfter otherAfter readings cases phaseFits
   retry-keeps p =
       formed-changed F x (otherOf retry h) (ownAfter retry h) (otherAfter retry x h (T (otherOf retry h)))
-      (record { owner = kept refl refl; held = kept refl (sym (lock-held-in h sleep p)); sends = kept refl refl; queue = kept refl refl; copies = kept refl (sym (copies-in F x xn sleep p)); ready = kept refl refl })
-      (record { other = F .own (otherOf retry h); own = own-entering (F .own x xn) lock (in-phase F x xn sleep p (fitsIn lock) refl) refl; queues = F .queues; owners = F .owners; chains = F .chains; copies = F .copies })
+      (record {
+        owner = kept refl refl;
+        held = kept refl (sym (lock-held-in h sleep p));
+        sends = kept refl refl;
+        queue = kept refl refl;
+        copies = kept refl (sym (copies-in F x xn sleep p));
+        ready = kept refl refl;
+      })
+      (record {
+        other = F .own (otherOf retry h);
+        own = own-entering (F .own x xn) lock (in-phase F x xn sleep p (fitsIn lock) refl) refl;
+        queues = F .queues;
+        owners = F .owners;
+        chains = F .chains;
+        copies = F .copies;
+      })
 
   -- look: nothing runs any more
   pub to-idle-keeps : phaseOf (h .phase) ≡ look → h .flags .ipc ≡ false → Formed n (afterAction toIdle T x)
   unfolding ownAfter otherAfter readings cases phaseFits
   to-idle-keeps p over =
       formed-changed F x (otherOf toIdle h) (ownAfter toIdle h) (otherAfter toIdle x h (T (otherOf toIdle h)))
-      (record { owner = kept refl refl; held = kept refl (sym (lock-held-in h look p)); sends = kept refl refl; queue = kept refl refl; copies = kept refl (sym (copies-in F x xn look p)); ready = kept refl refl })
-      (record { other = F .own (otherOf toIdle h); own = own-entering (F .own x xn) idle (in-phase-if F x xn look p (λ v r s. not (v .ipc)) (fitsIn idle) refl (rw over refl)) refl; queues = F .queues; owners = F .owners; chains = F .chains; copies = F .copies })
+      (record {
+        owner = kept refl refl;
+        held = kept refl (sym (lock-held-in h look p));
+        sends = kept refl refl;
+        queue = kept refl refl;
+        copies = kept refl (sym (copies-in F x xn look p));
+        ready = kept refl refl;
+      })
+      (record {
+        other = F .own (otherOf toIdle h);
+        own = own-entering (F .own x xn) idle (in-phase-if F x xn look p (λ v r s. not (v .ipc)) (fitsIn idle) refl (rw over refl)) refl;
+        queues = F .queues;
+        owners = F .owners;
+        chains = F .chains;
+        copies = F .copies;
+      })
 
   -- wake: it clears the sender's `poll`
   pub clear-poll-keeps : phaseOf (h .phase) ≡ wake → Formed n (afterAction clearPoll T x)
   unfolding ownAfter otherAfter readings cases
   clear-poll-keeps p =
       formed-changed F x (h .waking) (ownAfter clearPoll h) (otherAfter clearPoll x h (T (h .waking)))
-      (record { owner = kept refl refl; held = kept refl (sym (lock-held-in h wake p)); sends = kept refl refl; queue = kept refl refl; copies = kept refl (sym (copies-in F x xn wake p)); ready = kept refl refl })
+      (record {
+        owner = kept refl refl;
+        held = kept refl (sym (lock-held-in h wake p));
+        sends = kept refl refl;
+        queue = kept refl refl;
+        copies = kept refl (sym (copies-in F x xn wake p));
+        ready = kept refl refl;
+      })
       (record {
         other = λ rn. own-unpolled (F .own (h .waking) rn);
         own = own-entering (F .own x xn) unlock (in-phase F x xn wake p (fitsIn unlock) refl)

@@ -57,9 +57,11 @@ module _ (n : ℕ) (one : 1 ≤ n) (few : n ≤ 32) (store : List ℕ) (fit : le
     ending-shown = at-call k c i .follows .shown
 
   -- how often an operation is a sender
-  pub sends-counted : (x : ℕ) (o : Operation) (i : ℕ) → x < n → BeginsAt x o i (reverse entries) → occurs i (map (λ pair. pair .0) (pairs (reverse entries))) ≡ bit (sendCompleted o (fate n x i (reverse entries)))
+  pub sends-counted : (x : ℕ) (o : Operation) (i : ℕ) → x < n → BeginsAt x o i (reverse entries)
+      → occurs i (map (λ pair. pair .0) (pairs (reverse entries))) ≡ bit (sendCompleted o (fate n x i (reverse entries)))
   sends-counted = demand3 n one few store fit trace t .1 .paired .sends
 
   -- and how often a receiver
-  pub receives-counted : (x : ℕ) (o : Operation) (i : ℕ) → x < n → BeginsAt x o i (reverse entries) → occurs i (map (λ pair. pair .1) (pairs (reverse entries))) ≡ bit (receiveCompleted o (fate n x i (reverse entries)))
+  pub receives-counted : (x : ℕ) (o : Operation) (i : ℕ) → x < n → BeginsAt x o i (reverse entries)
+      → occurs i (map (λ pair. pair .1) (pairs (reverse entries))) ≡ bit (receiveCompleted o (fate n x i (reverse entries)))
   receives-counted = demand3 n one few store fit trace t .1 .paired .receives
