@@ -78,9 +78,14 @@ pub record Clauses (n x : ℕ) (h : Thread) : Type 0 where
   pub sendSet : sendersSendSet h ≡ true
   pub items : length (h .queue .items) ≡ 32
 
--- the same tests, in the one order
-pub own-grouped : (n x : ℕ) (h : Thread) → Clauses n x h → Own n x h
+-- opens the clauses on one thread and their groups
+unfoldable opened : ℕ
 unfolding numbersInRange ipcWithRunning bareUnlessDone notWithItself sendAndMarkWithIpc pollWithSend receivingWithPart ipcWithoutSend idleWithoutFlags releaseHasTarget receiversSendClear sendersSendSet inPhase isOneOf flagsFit outcomeFits operationFits phaseFits queueFits
+opened = 0
+
+-- the clauses, grouped
+pub own-grouped : (n x : ℕ) (h : Thread) → Clauses n x h → Own n x h
+unfolding opened
 own-grouped n x h c =
     let (phase, (sendRange, (receiveRange, (sendPart, (releasePart, (left, (queued, more))))))) = all-of-read _ (c .numbers) in
     let (owner, (code, (source, (count, (copied, (waking, end)))))) = more in
@@ -94,9 +99,9 @@ own-grouped n x h c =
       items = c .items;
     }
 
--- and in the other
+-- the groups, as clauses
 pub own-ungrouped : (n x : ℕ) (h : Thread) → Own n x h → Clauses n x h
-unfolding numbersInRange ipcWithRunning bareUnlessDone notWithItself sendAndMarkWithIpc pollWithSend receivingWithPart ipcWithoutSend idleWithoutFlags releaseHasTarget receiversSendClear sendersSendSet inPhase isOneOf flagsFit outcomeFits operationFits phaseFits queueFits
+unfolding opened
 own-ungrouped n x h w =
     let (phase, (sendAndMark, (poll, (receiving, (withoutSend, (idleFlags, (sendClear, (sendSet, (sendPart, (releasePart, end)))))))))) = all-of-read _ (w .flags) in
     let (code, (source, (count, (ipcExactly, (bareOutcome, end))))) = all-of-read _ (w .outcome) in
