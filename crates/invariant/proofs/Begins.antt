@@ -11,11 +11,11 @@ use Rattle.model.specs.declared.Operation.{Operation}
 use Rattle.model.specs.declared.Thread.{Thread}
 use Rattle.model.specs.declared.Table.{Table}
 use Rattle.model.specs.Lists.{allOf, update}
-use Rattle.model.specs.Shared.{noReceiver, nobody, codeOnly, closedOn, hasReceive, firstTime, tickCount, isLeft}
+use Rattle.model.specs.Shared.{noReceiver, nobody, codeOnly, closedOn, hasReceive, firstTime, tickCount}
 use Rattle.model.specs.Threads.{Phase, idle, lock, look, phaseOf, phaseNumber, at, editBelow, marked, ended, joined, senders, ready}
 use Rattle.model.specs.WellFormed.{isCode, nobodyOrBelow, sendInRange, receiveInRange, sendsTo}
 use Rattle.model.specs.Calls.{begunFlags, begun, ticked}
-use Rattle.model.proofs.Laws.{implies-read, implies-made, _and_, all-of-read, all-of-made}
+use Rattle.model.proofs.Laws.{implies-made, _and_, all-of-made}
 use Rattle.laws.proofs.Tables.{edit-at, below-length}
 use Rattle.laws.proofs.Phases.{lock-held-in}
 use Rattle.laws.proofs.Times.{left-from-code, left-falls}
@@ -23,7 +23,7 @@ use Rattle.laws.proofs.Ready.{never-ready}
 use Rattle.laws.proofs.Queues.{senders-joined}
 use Rattle.formed.proofs.Flags.{cases, flagsFit, told-any-if, fitsIn}
 use Rattle.formed.proofs.Own.{outcomeFits, operationFits, phaseFits, Own}
-use Rattle.invariant.proofs.Changes.{bare-fits, own-joined, own-ended}
+use Rattle.invariant.proofs.Changes.{operation-left, bare-fits, own-joined, own-ended}
 use Rattle.formed.proofs.Queues.{queues-join}
 use Rattle.formed.proofs.Copies.{copies-free}
 use Rattle.formed.proofs.Formed.{owner, copiesTo, readings, of, Formed}
@@ -177,12 +177,6 @@ module _ {n : ℕ} {T : ℕ → Thread} (F : Formed n T) (x : ℕ) (xn : x < n) 
       })
 
 -- ---- tick
--- `left` of a running thread may fall
-fallen : (n x : ℕ) (ipc : Bool) (o : Operation) (left now : ℕ) → (ipc ≡ true → isLeft left ≡ true → isLeft now ≡ true) → operationFits n x ipc o left ≡ true → operationFits n x ipc o now ≡ true
-unfolding operationFits
-fallen n x ipc o left now fits e = let (sends, (receives, (time, (target, (partner, end))))) = all-of-read _ e in
-    all-of-made _ (sends and receives and implies-made ipc _ (λ i. fits i (implies-read _ _ time i)) and target and partner and tt)
-
 -- of one thread
 tick-one-keeps : (n : ℕ) (T : ℕ → Thread) (F : Formed n T) (x : ℕ) → x < n → Formed n (update T x (ticked (T x)))
 unfolding ticked readings
@@ -195,7 +189,7 @@ tick-one-keeps n T F x xn =
       own = record {
         flags = w .flags;
         outcome = w .outcome;
-        operation = fallen n x (T x .flags .ipc) (T x .op) (T x .left) _ (λ i e. rw i (left-falls (T x .left) e)) (w .operation);
+        operation = operation-left n x (T x .flags .ipc) (T x .op) (T x .left) _ (λ i e. rw i (left-falls (T x .left) e)) (w .operation);
         phase = w .phase;
         queue = w .queue;
         items = w .items;

@@ -14,13 +14,14 @@ use Rattle.model.specs.Step.{abortSend, finishCall, finishSend, abortReceive, r
 use Rattle.model.proofs.Laws.{same?}
 use Rattle.laws.proofs.Lists.{update-same, update-other}
 use Rattle.laws.proofs.Phases.{lock-held-in}
+use Rattle.laws.proofs.Times.{left-from-code}
 use Rattle.laws.proofs.Ready.{ready-read, never-ready}
 use Rattle.laws.proofs.Queues.{senders-departed}
 use Rattle.laws.proofs.Decided.{otherOf, afterAction}
 use Rattle.formed.proofs.Flags.{cases, fitsIn}
 use Rattle.formed.proofs.Own.{phaseFits, Own}
 use Rattle.formed.proofs.Facts.{Other, target-other, count-small, queue-small}
-use Rattle.invariant.proofs.Changes.{operation-over, operation-reloaded, release-fits, bare-fits, received-fits, own-departed, own-ended}
+use Rattle.invariant.proofs.Changes.{operation-over, operation-left, release-fits, bare-fits, received-fits, own-departed, own-ended}
 use Rattle.formed.proofs.Queues.{Queues, queues-leave}
 use Rattle.formed.proofs.Copies.{Copies, copies-end, copies-free}
 use Rattle.formed.proofs.Formed.{owner, copiesTo, readings, of, Formed}
@@ -163,7 +164,7 @@ module _ {n : ℕ} {T : ℕ → Thread} (F : Formed n T) (x : ℕ) (xn : x < n) 
           own = record {
             flags = in-phase-if F x xn copy p (λ v r s. r) (λ v r s. fitsIn release (record { ipc = v .ipc; send = false; receiving = v .receiving; poll = false; mark = v .mark }) r s) refl receives;
             outcome = w .outcome;
-            operation = operation-reloaded n x (h .flags .ipc) (h .op) (h .left) (receiveTime (h .op .receive)) (w .operation);
+            operation = operation-left n x (h .flags .ipc) (h .op) (h .left) _ (λ i e. left-from-code (receiveTime (h .op .receive))) (w .operation);
             phase = release-fits n x (h .op .send) (h .copied) (h .waking) (to sends);
             queue = w .queue;
             items = w .items;

@@ -102,15 +102,11 @@ module _ (store : List ℕ) (n y : ℕ) (fit : length store ≡ 8 * n) (below : 
   unfolding wordsAt
   length-words = length-take-le 8 (drop (8 * y) store) (rw length-drop (omega arith))
 
-  -- the first k words of thread y, where the store has them one by one
-  pub words-are : (k : ℕ) (f : ℕ → ℕ) → k ≤ wordLimit → ((j : ℕ) → j < k → getD store (wordPlace y j) 0 ≡ f j) → take k (wordsAt store y) ≡ upTo k f
-  words-are k f few h = take-up-to (wordsAt store y) 0 k f (omega (arith, length-words)) (λ j l. word-at store y j (omega arith) ∙ h j l)
-
-  -- the words of a message, where the store has them one by one
-  pub words-are-message : (part : SendPart) → part .count ≤ wordLimit → ((j : ℕ) → j < part .count → getD store (wordPlace y j) 0 ≡ getD (part .words) j 0)
+  -- its first words are a message, where they are so one by one
+  pub words-are-message : (part : SendPart) → part .count ≤ wordLimit → ((j : ℕ) → j < part .count → getD (wordsAt store y) j 0 ≡ getD (part .words) j 0)
       → take (part .count) (wordsAt store y) ≡ message part
   unfolding message
-  words-are-message part few h = words-are (part .count) (λ i. getD (part .words) i 0) few h
+  words-are-message part few h = take-up-to (wordsAt store y) 0 (part .count) (λ i. getD (part .words) i 0) (omega (arith, length-words)) h
 
 -- ---- the store after a step
 -- a step leaves the store as it was, or copies one word

@@ -12,7 +12,7 @@ use Rattle.model.specs.Shared.{running}
 use Rattle.model.specs.Threads.{newTable}
 use Rattle.model.specs.Promise.{state, view}
 use Rattle.model.specs.Atomic.{shows}
-use Rattle.model.specs.Linearization.{Observed, Trace, Entry, played, AtCall, latest, EndsAt, HasEnded, pairs, fate, sendCompleted, receiveCompleted, BeginsAt}
+use Rattle.model.specs.Linearization.{Observed, Trace, Entry, played, AtCall, Allowed, latest, EndsAt, HasEnded, pairs, fate, sendCompleted, receiveCompleted, BeginsAt, Among, Match}
 use Rattle.model.specs.Linearized.{linearization, callsOf}
 use Rattle.linearization.proofs.Demand.{demand3}
 use Rattle.linearization.proofs.Corollaries.{only-linearization}
@@ -44,6 +44,10 @@ module _ (n : ℕ) (one : 1 ≤ n) (few : n ≤ 32) (store : List ℕ) (fit : le
     pub answered : AtCall (c .call) (said (c .answer)) here (played n before)
     answered = at-call k c i .follows .place
 
+    -- the conditions of its event hold where it stands
+    pub allowed : Allowed n here (played n before)
+    allowed = at-call k c i .follows .allowed
+
     -- what the threads show after it
     pub viewed : (x : ℕ) → x < n → view (c .after) x ≡ shows (played n (here ∷ before)) x
     viewed = at-call k c i .follows .views
@@ -65,3 +69,7 @@ module _ (n : ℕ) (one : 1 ≤ n) (few : n ≤ 32) (store : List ℕ) (fit : le
   pub receives-counted : (x : ℕ) (o : Operation) (i : ℕ) → x < n → BeginsAt x o i (reverse entries)
       → occurs i (map (λ pair. pair .1) (pairs (reverse entries))) ≡ bit (receiveCompleted o (fate n x i (reverse entries)))
   receives-counted = demand3 n one few store fit trace t .1 .paired .receives
+
+  -- each pair is of a completed send to the thread of a completed receive
+  pub pairs-matched : (i j : ℕ) → Among (i, j) (pairs (reverse entries)) → Match n i j (reverse entries)
+  pairs-matched = demand3 n one few store fit trace t .1 .paired .matched

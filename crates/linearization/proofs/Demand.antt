@@ -20,7 +20,7 @@ use Rattle.linearization.proofs.Represents.{Represents, first-represent
 -- a state shows what the machine that it represents shows
 pub represents-shown : (n : ℕ) (s : State) (p : Machine) → Represents n s p → (x : ℕ) → x < n → view s x ≡ shows p x
 unfolding view abstraction
-represents-shown n s p R x xn = sym (ap {B = View} (λ (q : AtomicThread). record { outcome = q .outcome; words = q .words }) (R .simulates .like x (rw (R .lasting .size) xn)))
+represents-shown n s p R x xn = sym (ap {B = View} (λ (q : AtomicThread). record { outcome = q .outcome; words = q .words }) (R .like x xn))
 
 -- ---- one call
 module _ (n : ℕ) (past : List Entry) (all : AllAllowed n past) (s : State) (R : Represents n s (played n past)) (c : Observed) (kept : Promise (c .call) s (c .answer) (c .after)) where

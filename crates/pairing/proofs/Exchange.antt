@@ -10,28 +10,14 @@ use borrow.Author.Tests.{eqb-true, eqb-false}
 use Rattle.model.specs.declared.Operation.{Operation}
 use Rattle.model.specs.Lists.{bit, occurs}
 use Rattle.model.specs.Shared.{done, accepts, message}
-use Rattle.model.specs.Linearization.{Entry, pairs, fate, BeginsAt, Among, Match, sendCompleted, receiveCompleted}
+use Rattle.model.specs.Linearization.{Entry, pairs, fate, BeginsAt, Among, sendCompleted, receiveCompleted}
 use Rattle.model.proofs.Laws.{by}
 use Rattle.pairing.proofs.Sides.{Side, placeOn, completed, sender, receiver}
 use Rattle.pairing.proofs.Places.{begins-one}
 use Rattle.pairing.proofs.Operations.{AllAllowed}
 use Rattle.pairing.proofs.Counting.{counted}
-use Rattle.pairing.proofs.Delivery.{EndedWith, pair-delivered}
-use Rattle.pairing.proofs.Pairing.{among-counted, all-paired}
-
--- ---- each pair
--- the send and the receive of a match fit together, and the receive ended with code 0 and the source, count and words of the send
-pub record Exchanged (n i j : ℕ) (past : List Entry) (m : Match n i j past) : Type 0 where
-  pub accepted : accepts (m .received .receive) (m .sender) ≡ true
-  pub ended : EndedWith (record { code = done; source = m .sender; count = m .sent .send .count }) (message (m .sent .send)) (fate n (m .receiver) j past)
-
--- each pair is an exchange
-pub pair-exchanged : (n i j : ℕ) (past : List Entry) → AllAllowed n past → Among (i, j) (pairs past) → (m : Match n i j past) → Exchanged n i j past m
-pair-exchanged n i j past l a m =
-    let d = pair-delivered n i j past l a in
-    let from = begins-one (m .sender) (d .sender) (m .sent) (d .sent) i i past (m .sends) (d .sends) refl in
-    let to = begins-one (m .receiver) (d .receiver) (m .received) (d .received) j j past (m .receives) (d .receives) refl in
-    record { accepted = rw (from .0, to .1) (d .accepted); ended = rw (from .0, from .1, to .0) (d .ended) }
+use Rattle.pairing.proofs.Delivery.{EndedWith, Delivery, pair-delivered}
+use Rattle.pairing.proofs.Pairing.{among-counted}
 
 -- ---- each completed part
 -- exactly one pair of the list has i, by what f reads of a pair
@@ -62,14 +48,10 @@ one-pair f i (a ∷ l) e =
       only = λ other h j. ⊎-elim (λ same. absurd (eqb-false (f a) i k (sym (ap f same) ∙ j))) (λ h. o .only other h j) h;
     })
 
--- each completed part is in exactly one pair on its side, and that pair is an exchange
-pub each-completed : (side : Side) (n x : ℕ) (o : Operation) (i : ℕ) (past : List Entry)
-    → AllAllowed n past → BeginsAt x o i past → completed side o (fate n x i past) ≡ true
-    → (one : OnePair (placeOn side) i (pairs past)) × (m : Match n (one .pair .0) (one .pair .1) past) × Exchanged n (one .pair .0) (one .pair .1) past m
-each-completed side n x o i past l b c =
-    let one = one-pair (placeOn side) i (pairs past) (counted n side x o i past l b ∙ ap bit c) in
-    let m = all-paired n past l .matched (one .pair .0) (one .pair .1) (one .among) in
-    (one, m, pair-exchanged n (one .pair .0) (one .pair .1) past l (one .among) m)
+-- each completed part is in exactly one pair on its side
+each-completed : (side : Side) (n x : ℕ) (o : Operation) (i : ℕ) (past : List Entry)
+    → AllAllowed n past → BeginsAt x o i past → completed side o (fate n x i past) ≡ true → OnePair (placeOn side) i (pairs past)
+each-completed side n x o i past l b c = one-pair (placeOn side) i (pairs past) (counted n side x o i past l b ∙ ap bit c)
 
 -- ---- the same from the side of each operation
 -- the one receive by which operation o of thread x, begun at place i, was received: at its target, with x as source and o's count and words
@@ -94,29 +76,29 @@ pub record SentOnce (n x : ℕ) (o : Operation) (i : ℕ) (past : List Entry) : 
   pub among : Among (place, i) (pairs past)
   pub only : (j : ℕ) → Among (j, i) (pairs past) → j ≡ place
 
-module _ (n i j : ℕ) (past : List Entry) (m : Match n i j past) (k : Exchanged n i j past m) (a : Among (i, j) (pairs past)) where
-  -- a match from the side of its send, where it is the only one
-  match-received : ((u : ℕ) → Among (i, u) (pairs past) → u ≡ j) → ReceivedOnce n (m .sender) (m .sent) i past
-  match-received only = record {
-    operation = m .received;
+module _ (n i j : ℕ) (past : List Entry) (d : Delivery n i j past) (a : Among (i, j) (pairs past)) where
+  -- a delivery from the side of its send, where it is the only one
+  delivery-received : ((u : ℕ) → Among (i, u) (pairs past) → u ≡ j) → ReceivedOnce n (d .sender) (d .sent) i past
+  delivery-received only = record {
+    operation = d .received;
     place = j;
-    begins = subst (λ (r : ℕ). BeginsAt r (m .received) j past) (sym (m .target)) (m .receives);
-    accepted = k .accepted;
-    ended = subst (λ (r : ℕ). EndedWith (record { code = done; source = m .sender; count = m .sent .send .count }) (message (m .sent .send)) (fate n r j past)) (sym (m .target)) (k .ended);
+    begins = subst (λ (r : ℕ). BeginsAt r (d .received) j past) (sym (d .target)) (d .receives);
+    accepted = d .accepted;
+    ended = subst (λ (r : ℕ). EndedWith (record { code = done; source = d .sender; count = d .sent .send .count }) (message (d .sent .send)) (fate n r j past)) (sym (d .target)) (d .ended);
     among = a;
     only = only;
   }
 
   -- and from the side of its receive
-  match-sent : ((u : ℕ) → Among (u, j) (pairs past) → u ≡ i) → SentOnce n (m .receiver) (m .received) j past
-  match-sent only = record {
-    sender = m .sender;
-    operation = m .sent;
+  delivery-sent : ((u : ℕ) → Among (u, j) (pairs past) → u ≡ i) → SentOnce n (d .receiver) (d .received) j past
+  delivery-sent only = record {
+    sender = d .sender;
+    operation = d .sent;
     place = i;
-    begins = m .sends;
-    target = m .target;
-    accepted = k .accepted;
-    ended = k .ended;
+    begins = d .sends;
+    target = d .target;
+    accepted = d .accepted;
+    ended = d .ended;
     among = a;
     only = only;
   }
@@ -125,15 +107,17 @@ module _ (n x : ℕ) (o : Operation) (i : ℕ) (past : List Entry) (l : AllAllow
   -- each completed send was received once
   pub send-received : sendCompleted o (fate n x i past) ≡ true → ReceivedOnce n x o i past
   send-received c =
-      let (one, m, k) = each-completed sender n x o i past l b c in
-      let from = begins-one (m .sender) x (m .sent) o (one .pair .0) i past (m .sends) b (one .has) in
+      let one = each-completed sender n x o i past l b c in
+      let d = pair-delivered n (one .pair .0) (one .pair .1) past l (one .among) in
+      let from = begins-one (d .sender) x (d .sent) o (one .pair .0) i past (d .sends) b (one .has) in
       subst (λ (u : ℕ). ReceivedOnce n x o u past) (one .has) (subst₂ (λ (y : ℕ) (u : Operation). ReceivedOnce n y u (one .pair .0) past) (from .0) (from .1)
-      (match-received n (one .pair .0) (one .pair .1) past m k (one .among) (λ u h. ap (λ (pair : ℕ × ℕ). pair .1) (one .only (one .pair .0, u) h (one .has)))))
+      (delivery-received n (one .pair .0) (one .pair .1) past d (one .among) (λ u h. ap (λ (pair : ℕ × ℕ). pair .1) (one .only (one .pair .0, u) h (one .has)))))
 
   -- each completed receive had one send
   pub receive-sent : receiveCompleted o (fate n x i past) ≡ true → SentOnce n x o i past
   receive-sent c =
-      let (one, m, k) = each-completed receiver n x o i past l b c in
-      let to = begins-one (m .receiver) x (m .received) o (one .pair .1) i past (m .receives) b (one .has) in
+      let one = each-completed receiver n x o i past l b c in
+      let d = pair-delivered n (one .pair .0) (one .pair .1) past l (one .among) in
+      let to = begins-one (d .receiver) x (d .received) o (one .pair .1) i past (d .receives) b (one .has) in
       subst (λ (u : ℕ). SentOnce n x o u past) (one .has) (subst₂ (λ (y : ℕ) (u : Operation). SentOnce n y u (one .pair .1) past) (to .0) (to .1)
-      (match-sent n (one .pair .0) (one .pair .1) past m k (one .among) (λ u h. ap (λ (pair : ℕ × ℕ). pair .0) (one .only (u, one .pair .1) h (one .has)))))
+      (delivery-sent n (one .pair .0) (one .pair .1) past d (one .among) (λ u h. ap (λ (pair : ℕ × ℕ). pair .0) (one .only (u, one .pair .1) h (one .has)))))

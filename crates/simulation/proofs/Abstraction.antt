@@ -1,22 +1,18 @@
 -- The atomic machine's thread that a thread and its eight words stand for, and what the store holds while words are copied.
 use mathlib.Core.Path.{_≡_, refl, sym, ap, _∙_, subst}
 use mathlib.Core.Bool.{Bool, true, false, cond}
-use mathlib.Core.List.{List, [], _∷_}
+use mathlib.Core.List.{List}
 use Prim.Native.Nat.{ℕ, _+_, _*_, _≤_, _<_}
 use native.Mathlib.Omega.{arith}
 use lib.ListN.{length, getD, take}
 use Rattle.model.specs.declared.Operation.{Operation}
 use Rattle.model.specs.declared.Thread.{Thread}
-use Rattle.model.specs.Lists.{implies}
 use Rattle.model.specs.Shared.{nobody, wordLimit}
-use Rattle.model.specs.Threads.{copy, withCopied, wordsAt}
+use Rattle.model.specs.Threads.{withCopied, wordsAt}
 use Rattle.model.specs.Step.{wordCopied}
 use Rattle.model.specs.Atomic.{Run, nothing, sending, receiving, runs, AtomicThread}
-use Rattle.model.proofs.Laws.{by, same?, implies-read}
+use Rattle.model.proofs.Laws.{same?}
 use Rattle.laws.proofs.Store.{wordPlace, word-at, word-copied-here, word-copied-elsewhere}
-use Rattle.formed.proofs.Flags.{cases, isOneOf, told-any}
-use Rattle.formed.proofs.Own.{Own}
-use Rattle.formed.proofs.Facts.{count-small, copied-small}
 use Rattle.formed.proofs.Formed.{copiesTo}
 
 -- what runs in a thread, by its `ipc`, its `send` and its operation
@@ -37,7 +33,7 @@ runs-with-ipc false send o = refl
 
 -- the words that thread h has copied stand in its receiver's slice of the store
 abbrev pub CopiedBy : ℕ → List ℕ → Thread → Type 0
-CopiedBy n store h = copiesTo h < n → (j : ℕ) → j < h .copied → getD store (wordPlace (copiesTo h) j) 0 ≡ getD (h .op .send .words) j 0
+CopiedBy n store h = copiesTo h < n → (j : ℕ) → j < h .copied → getD (wordsAt store (copiesTo h)) j 0 ≡ getD (h .op .send .words) j 0
 
 -- those of every thread of the table
 abbrev pub Copied : ℕ → (ℕ → Thread) → List ℕ → Type 0
@@ -51,28 +47,18 @@ copies-nowhere n store h few e = rw e (λ l. absurd (omega arith))
 pub copied-nothing : (n : ℕ) (store : List ℕ) (h : Thread) → h .copied ≡ 0 → CopiedBy n store h
 copied-nothing n store h e = rw e (λ l j k. absurd (omega arith))
 
--- a thread copies at most eight words
-copied-few : (n x : ℕ) (h : Thread) → Own n x h → n ≤ nobody → copiesTo h < n → h .copied ≤ wordLimit
-unfolding copiesTo cases
-copied-few n x h w few l = by (isOneOf (copy ∷ []) (h .phase))
-    (λ e. let sends : h .flags .send ≡ true = implies-read _ _ (told-any h (w .flags) (λ k v r s. implies (isOneOf (copy ∷ []) k) (v .send)) refl) e in
-    omega (arith, copied-small w e, count-small w sends))
-    (λ e. let z : nobody < n = rw e at l in absurd (omega arith))
-
 -- of one whose receiver's words stay, whatever else changes in the store
-pub copied-kept : (n x : ℕ) (store after : List ℕ) (h : Thread) → Own n x h → n ≤ nobody
+pub copied-kept : (n : ℕ) (store after : List ℕ) (h : Thread)
     → (copiesTo h < n → wordsAt after (copiesTo h) ≡ wordsAt store (copiesTo h)) → CopiedBy n store h → CopiedBy n after h
-copied-kept n x store after h w few same before l j jk =
-    let k : h .copied ≤ wordLimit = copied-few n x h w few l in
-    sym (word-at after (copiesTo h) j (omega arith)) ∙ ap (λ (words : List ℕ). getD words j 0) (same l) ∙ word-at store (copiesTo h) j (omega arith) ∙ before l j jk
+copied-kept n store after h same before l j jk = ap (λ (words : List ℕ). getD words j 0) (same l) ∙ before l j jk
 
 -- and of one that copies one word more
 pub copied-more : (n : ℕ) (store : List ℕ) (h : Thread) → length store ≡ 8 * n → h .copied < wordLimit → copiesTo h ≡ h .op .send .target → CopiedBy n store h
     → CopiedBy n (wordCopied h store) (withCopied (h .copied + 1) h)
 unfolding copiesTo
 copied-more n store h fit few to before l j jk =
-    let below : h .op .send .target < n = subst (λ (r : ℕ). r < n) to l in
-    let earlier : getD store (wordPlace (copiesTo h) j) 0 ≡ getD store (wordPlace (h .op .send .target) j) 0 = ap (λ (r : ℕ). getD store (wordPlace r j) 0) to in
-    ap (λ (r : ℕ). getD (wordCopied h store) (wordPlace r j) 0) to ∙ same? j (h .copied)
+    let target = h .op .send .target in
+    let below : target < n = subst (λ (r : ℕ). r < n) to l in
+    word-at (wordCopied h store) (copiesTo h) j (omega arith) ∙ ap (λ (r : ℕ). getD (wordCopied h store) (wordPlace r j) 0) to ∙ same? j (h .copied)
     (λ e. rw e (word-copied-here h store (omega arith)))
-    (λ d. word-copied-elsewhere h store (wordPlace (h .op .send .target) j) (omega arith) ∙ sym earlier ∙ before l j (omega arith))
+    (λ d. word-copied-elsewhere h store (wordPlace target j) (omega arith) ∙ ap (λ (r : ℕ). getD store (wordPlace r j) 0) (sym to) ∙ sym (word-at store (copiesTo h) j (omega arith)) ∙ before l j (omega arith))

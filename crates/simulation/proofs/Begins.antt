@@ -41,7 +41,7 @@ module _ {n : ℕ} {p : Machine} {T : ℕ → Thread} {store : List ℕ} (S : Si
   zeroed-kept : OthersKept n T x store after
   zeroed-kept = record {
     words = λ y yn d. ap (abstraction (T y)) (sym (words-zeroed-other store x y d));
-    copied = λ y yn d. copied-kept n y store after (T y) (S .formed .own y yn) (few (S .formed))
+    copied = λ y yn d. copied-kept n store after (T y)
         (λ l. words-zeroed-other store x (copiesTo (T y)) (no-copier (S .formed) x xn unowned y yn)) (S .copied y yn);
   }
 

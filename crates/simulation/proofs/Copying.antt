@@ -13,7 +13,6 @@ use Rattle.model.proofs.Laws.{same?}
 use Rattle.laws.proofs.Store.{words-copied-other}
 use Rattle.laws.proofs.Decided.{afterAction}
 use Rattle.formed.proofs.Formed.{copiesTo}
-use Rattle.formed.proofs.Neighbours.{few}
 use Rattle.formed.proofs.Receivers.{copies-to-target, receiver-count, message-short, copies-alone}
 use Rattle.simulation.proofs.Abstraction.{abstraction, copied-kept, copied-more}
 use Rattle.simulation.proofs.Leads.{Simulates, Leads, OthersKept, none-leads}
@@ -45,6 +44,6 @@ copy-word-leads {n} {p} {T} {store} S x xn c more =
     kept : OthersKept n T x store after
     kept = record {
       words = λ y yn d. words y yn;
-      copied = λ y yn d. copied-kept n y store after (T y) (S .formed .own y yn) (few (S .formed))
+      copied = λ y yn d. copied-kept n store after (T y)
           (λ l. words-copied-other (T x) store (copiesTo (T y)) (copies-alone (S .formed) x xn c y yn d) short) (S .copied y yn);
     }

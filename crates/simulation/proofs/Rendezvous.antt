@@ -12,7 +12,7 @@ use Rattle.model.specs.Shared.{hasReceive, message, nobody}
 use Rattle.model.specs.Threads.{copy, phaseOf, departed, wordsAt}
 use Rattle.model.specs.Step.{finishCall, finishSend, received, ownAfter, otherAfter}
 use Rattle.model.specs.Atomic.{sending, Machine, rendezvous, receiverAfter, senderAfter, play, Can}
-use Rattle.laws.proofs.Store.{wordPlace, words-are-message}
+use Rattle.laws.proofs.Store.{words-are-message}
 use Rattle.laws.proofs.Decided.{afterAction}
 use Rattle.formed.proofs.Flags.{isOneOf}
 use Rattle.formed.proofs.Facts.{sends-runs}
@@ -50,9 +50,9 @@ module _ {n : ℕ} {p : Machine} {T : ℕ → Thread} {store : List ℕ} (S : Si
   message-there : take (h .op .send .count) (wordsAt store target) ≡ message (h .op .send)
   message-there = words-are-message store n target (S .fit) below (h .op .send) (message-short (S .formed) x xn c) (λ j l. there j (omega arith))
     where
-      there : (j : ℕ) → j < h .copied → getD store (wordPlace target j) 0 ≡ getD (h .op .send .words) j 0
+      there : (j : ℕ) → j < h .copied → getD (wordsAt store target) j 0 ≡ getD (h .op .send .words) j 0
       there = let to = copies-to-target (S .formed) x xn c in
-          subst (λ (r : ℕ). (j : ℕ) → j < h .copied → getD store (wordPlace r j) 0 ≡ getD (h .op .send .words) j 0) to (S .copied x xn (rw to below))
+          subst (λ (r : ℕ). (j : ℕ) → j < h .copied → getD (wordsAt store r) j 0 ≡ getD (h .op .send .words) j 0) to (S .copied x xn (rw to below))
 
   -- the receiver ends alike in both machines
   receiver-alike : receiverAfter x (p x .run) (p target) ≡ abstraction (received x h (T target)) (wordsAt store target)
