@@ -27,5 +27,5 @@ module _ (n : ℕ) (copiesTo : ℕ → ℕ) (ready : ℕ → ℕ → Bool) where
       (λ d. rw (update-other copiesTo x nobody y d) (before y yn))
 
   -- a thread to which nobody copies may be ready or not
-  pub copies-free : (r : ℕ) (now : ℕ → Bool) → ((y : ℕ) → y < n → copiesTo y ≢ r) → Copies n copiesTo ready → Copies n copiesTo (update ready r now)
-  copies-free r now alone before y yn l = rw (update-other ready r now (copiesTo y) (alone y yn)) (before y yn l)
+  pub copies-elsewhere : (r : ℕ) (now : ℕ → Bool) → ((y : ℕ) → y < n → copiesTo y ≢ r) → Copies n copiesTo ready → Copies n copiesTo (update ready r now)
+  copies-elsewhere r now alone before y yn l = rw (update-other ready r now (copiesTo y) (alone y yn)) (before y yn l)

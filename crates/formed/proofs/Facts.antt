@@ -1,4 +1,4 @@
--- What a thread that is well-formed by itself tells: its partner in a send, and numbers that fit.
+-- What a thread that is well-formed by itself tells: its target, and numbers that fit.
 use mathlib.Core.Path.{_≡_, refl}
 use mathlib.Core.Logic.{_≢_}
 use mathlib.Core.Bool.{true, _&&_}
@@ -48,6 +48,11 @@ module _ {n x : ℕ} {h : Thread} (w : Own n x h) where
       let (inRange, more) = all-of-read _ (w .operation) in
       let (below, (count, more)) = all-of-read _ (implies-read _ _ (implies-read _ _ inRange (sends-runs e)) (sends-part e)) in
       leb-true (h .op .send .count) wordLimit count
+
+  -- a thread in copy sends
+  pub copy-sends : isOneOf (copy ∷ []) (h .phase) ≡ true → h .flags .send ≡ true
+  unfolding cases
+  copy-sends e = implies-read _ _ (told-any h (w .flags) (λ k v r s. implies (isOneOf (copy ∷ []) k) (v .send)) refl) e
 
   -- its queue is not too long
   pub queue-small : h .queue .len ≤ 32

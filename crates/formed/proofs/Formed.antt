@@ -1,5 +1,5 @@
 -- A well-formed table over the function of its threads: the clauses between threads by six readings, those on one thread grouped.
-use mathlib.Core.Path.{_≡_, refl}
+use mathlib.Core.Path.{_≡_}
 use mathlib.Core.Bool.{true, cond}
 use mathlib.Core.List.{[], _∷_}
 use Prim.Native.Nat.{ℕ, _≤_, _<_}
@@ -8,14 +8,13 @@ use lib.Dec.{leb}
 use borrow.Author.Tests.{leb-true}
 use Rattle.model.specs.declared.Thread.{Thread}
 use Rattle.model.specs.declared.Table.{Table}
-use Rattle.model.specs.Lists.{implies}
 use Rattle.model.specs.Shared.{nobody}
 use Rattle.model.specs.Threads.{copy, phaseOf, at, senders, ready, lockHeld}
 use Rattle.model.specs.WellFormed.{sizeInRange, inPhase, sendsTo, ownerOf, copiesToReady, Shaped, WellFormed}
 use Rattle.model.proofs.Laws.{by, and-right, implies-read, implies-made}
-use Rattle.formed.proofs.Flags.{cases, isOneOf, told-any}
-use Rattle.formed.proofs.Own.{Own, Clauses, own-grouped, own-ungrouped}
-use Rattle.formed.proofs.Facts.{target-other}
+use Rattle.formed.proofs.Flags.{cases, isOneOf}
+use Rattle.formed.proofs.Own.{Own, OwnClauses, own-grouped, own-ungrouped}
+use Rattle.formed.proofs.Facts.{copy-sends, target-other}
 use Rattle.formed.proofs.Locks.{Owners, within, Chains}
 use Rattle.formed.proofs.Queues.{Queues}
 use Rattle.formed.proofs.Copies.{Copies}
@@ -61,7 +60,7 @@ module _ (t : Table) (w : WellFormed t) (z : Shaped t) where
       (λ e. rw e (λ l. absurd (let s = small in omega arith)))
 
   -- the clauses of a thread
-  clauses-at : (x : ℕ) → x < t .n → Clauses (t .n) x (at t x)
+  clauses-at : (x : ℕ) → x < t .n → OwnClauses (t .n) x (at t x)
   clauses-at x xn = record {
     numbers = w .numbers x xn;
     ipcExactly = w .ipcExactly x xn;
@@ -93,14 +92,14 @@ module _ (t : Table) (w : WellFormed t) (z : Shaped t) where
 -- a table of the right size is well-formed if its threads are
 module _ (t : Table) (size : sizeInRange (t .n) ≡ true) (F : Formed (t .n) (at t)) where
   -- the clauses of a thread
-  own-clauses : (x : ℕ) → x < t .n → Clauses (t .n) x (at t x)
+  own-clauses : (x : ℕ) → x < t .n → OwnClauses (t .n) x (at t x)
   own-clauses x xn = own-ungrouped (t .n) x (at t x) (F .own x xn)
 
   -- the clause on copies, as `WellFormed` has it
   copies-told : (x : ℕ) → x < t .n → copiesToReady t x (at t x) ≡ true
   unfolding copiesTo copiesToReady inPhase cases
   copies-told x xn = implies-made _ _ (λ (e : isOneOf (copy ∷ []) (at t x .phase) ≡ true).
-      let sends : at t x .flags .send ≡ true = implies-read _ _ (told-any (at t x) (F .own x xn .flags) (λ k v r s. implies (isOneOf (copy ∷ []) k) (v .send)) refl) e in
+      let sends : at t x .flags .send ≡ true = copy-sends (F .own x xn) e in
       rw e at (F .copies x xn (rw e (target-other (F .own x xn) sends .below))))
 
   -- the same clauses, as `WellFormed` has them

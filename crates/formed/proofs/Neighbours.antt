@@ -1,7 +1,7 @@
 -- What well-formed threads tell of one another: who holds a lock, who copies to whom, who waits in a queue.
-use mathlib.Core.Path.{fun-ext, _≡_, refl, sym, ap, _∙_}
+use mathlib.Core.Path.{_≡_, refl, sym, ap, _∙_}
 use mathlib.Core.Logic.{_≢_}
-use mathlib.Core.Bool.{Bool, not, true, false, cond, _&&_}
+use mathlib.Core.Bool.{not, true, false, cond, _&&_}
 use mathlib.Core.List.{[], _∷_}
 use Prim.Native.Nat.{ℕ, _+_, _≤_, _<_}
 use native.Mathlib.Omega.{arith}
@@ -15,30 +15,16 @@ use Rattle.model.specs.WellFormed.{sendsTo}
 use Rattle.model.proofs.Laws.{by, same?, and-left, and-right, few-enough}
 use Rattle.laws.proofs.Lists.{bit-small}
 use Rattle.laws.proofs.Phases.{phase-number, lock-held-in}
-use Rattle.laws.proofs.Queues.{senders-length}
+use Rattle.laws.proofs.Queues.{sends-to, sends-nowhere, senders-length}
 use Rattle.formed.proofs.Flags.{cases, Implied, isOneOf, told, phase-small, FlagTest, told-if}
 use Rattle.formed.proofs.Facts.{Other, target-other, queue-small, target-below, woken-below}
 use Rattle.formed.proofs.Locks.{not-own-owner}
 use Rattle.formed.proofs.Formed.{Formed, copiesTo}
 
--- a thread that sends, to whom it sends
-pub sends-to : (h : Thread) → h .flags .send ≡ true → (u : ℕ) → sendsTo h u ≡ eqb (h .op .send .target) u
-unfolding sendsTo
-sends-to h e u = rw e refl
-
--- one that does not send, sends to nobody
-pub sends-nowhere : (h : Thread) → h .flags .send ≡ false → (u : ℕ) → sendsTo h u ≡ false
-unfolding sendsTo
-sends-nowhere h e u = rw e refl
-
--- the same of the whole function
-pub silent : (h : Thread) → h .flags .send ≡ false → _≡_ {A = ℕ → Bool} (sendsTo h) (λ u. false)
-silent h e = fun-ext (sends-nowhere h e)
-
 module _ {n : ℕ} {T : ℕ → Thread} (F : Formed n T) where
   -- 255 is no thread of the table
-  pub few : n ≤ nobody
-  few = let l = F .few in omega arith
+  pub below-nobody : n ≤ nobody
+  below-nobody = let l = F .few in omega arith
 
   -- ---- a thread in a phase that is known
   module _ (x : ℕ) (xn : x < n) (p : Phase) (e : phaseOf (T x .phase) ≡ p) where
@@ -55,7 +41,7 @@ module _ {n : ℕ} {T : ℕ → Thread} (F : Formed n T) where
     pub holds-other : lockHeldIn p (T x .op .send .target) (T x .waking) < n → Other n x (lockHeldIn p (T x .op .send .target) (T x .waking))
     holds-other below = record {
       below = below;
-      apart = λ i. not-own-owner n few (λ r. T r .owner) (F .chains) x xn (F .owners x x xn xn .1 (lock-held-in (T x) p e ∙ i));
+      apart = λ i. not-own-owner n below-nobody (λ r. T r .owner) (F .chains) x xn (F .owners x x xn xn .1 (lock-held-in (T x) p e ∙ i));
     }
 
   module _ (x : ℕ) (xn : x < n) where
@@ -132,13 +118,13 @@ module _ {n : ℕ} {T : ℕ → Thread} (F : Formed n T) where
   pub copier : (r y : ℕ) → r < n → y < n → copiesTo (T y) ≡ r → T r .owner ≡ y
   unfolding copiesTo phaseOf isOneOf
   copier r y rn yn e =
-      let l = few in
+      let l = below-nobody in
       let k : T y .phase ≡ phaseNumber copy = copies-phase y (λ i. let z : r ≡ nobody = sym e ∙ i in omega arith) in
       F .owners r y rn yn .1 (lock-held-in (T y) copy (ap phaseOf k) ∙ sym (copies-in y yn copy (ap phaseOf k)) ∙ e)
 
   -- to a thread whose lock is free nobody copies
   pub no-copier : (r : ℕ) → r < n → T r .owner ≡ nobody → (y : ℕ) → y < n → copiesTo (T y) ≢ r
-  no-copier r rn free y yn e = let z : nobody ≡ y = sym free ∙ copier r y rn yn e in let l = few in omega arith
+  no-copier r rn free y yn e = let z : nobody ≡ y = sym free ∙ copier r y rn yn e in let l = below-nobody in omega arith
 
   -- ---- queues
   -- who stands in x's queue sends to x

@@ -63,7 +63,7 @@ pub record Own (n x : ℕ) (h : Thread) : Type 0 where
   pub items : length (h .queue .items) ≡ 32
 
 -- the clauses of `WellFormed` on one thread by itself
-pub record Clauses (n x : ℕ) (h : Thread) : Type 0 where
+pub record OwnClauses (n x : ℕ) (h : Thread) : Type 0 where
   pub numbers : numbersInRange n h ≡ true
   pub ipcExactly : ipcWithRunning h ≡ true
   pub bareOutcome : bareUnlessDone h ≡ true
@@ -84,7 +84,7 @@ unfolding numbersInRange ipcWithRunning bareUnlessDone notWithItself sendAndMark
 opened = 0
 
 -- the clauses, grouped
-pub own-grouped : (n x : ℕ) (h : Thread) → Clauses n x h → Own n x h
+pub own-grouped : (n x : ℕ) (h : Thread) → OwnClauses n x h → Own n x h
 unfolding opened
 own-grouped n x h c =
     let (phase, (sendRange, (receiveRange, (sendPart, (releasePart, (left, (queued, more))))))) = all-of-read _ (c .numbers) in
@@ -100,7 +100,7 @@ own-grouped n x h c =
     }
 
 -- the groups, as clauses
-pub own-ungrouped : (n x : ℕ) (h : Thread) → Own n x h → Clauses n x h
+pub own-ungrouped : (n x : ℕ) (h : Thread) → Own n x h → OwnClauses n x h
 unfolding opened
 own-ungrouped n x h w =
     let (phase, (sendAndMark, (poll, (receiving, (withoutSend, (idleFlags, (sendClear, (sendSet, (sendPart, (releasePart, end)))))))))) = all-of-read _ (w .flags) in

@@ -14,9 +14,9 @@ use Rattle.laws.proofs.Ready.{ready-read}
 use Rattle.laws.proofs.Codes.{code-is}
 use Rattle.formed.proofs.Flags.{isOneOf}
 use Rattle.formed.proofs.Own.{outcomeFits}
-use Rattle.formed.proofs.Facts.{Other, target-other, count-small}
+use Rattle.formed.proofs.Facts.{count-small}
 use Rattle.formed.proofs.Formed.{Formed, copiesTo}
-use Rattle.formed.proofs.Neighbours.{copies-in, copier, sends-in-copy}
+use Rattle.formed.proofs.Neighbours.{target-in-copy, copies-in, copier, sends-in-copy}
 
 -- the count of a thread that runs is 0
 running-count : (n : ℕ) (u : Outcome) → outcomeFits n true u ≡ true → u .count ≡ 0
@@ -35,10 +35,6 @@ module _ {n : ℕ} {T : ℕ → Thread} (F : Formed n T) (x : ℕ) (xn : x < n) 
   abbrev target : ℕ
   target = T x .op .send .target
 
-  -- its receiver is another thread of the table
-  pub receiver-other : Other n x target
-  receiver-other = target-other (F .own x xn) (sends-in-copy F x xn c)
-
   -- it copies to its target
   pub copies-to-target : copiesTo h ≡ target
   unfolding isOneOf
@@ -46,11 +42,11 @@ module _ {n : ℕ} {T : ℕ → Thread} (F : Formed n T) (x : ℕ) (xn : x < n) 
 
   -- its receiver is ready for it
   pub receiver-ready : ready (T target) x ≡ true
-  receiver-ready = subst (λ (r : ℕ). ready (T r) x ≡ true) copies-to-target (F .copies x xn (rw copies-to-target (receiver-other .below)))
+  receiver-ready = subst (λ (r : ℕ). ready (T r) x ≡ true) copies-to-target (F .copies x xn (rw copies-to-target (target-in-copy F x xn c .below)))
 
   -- so its receiver runs and shows no words
   pub receiver-count : T target .outcome .count ≡ 0
-  receiver-count = running-count n (T target .outcome) (rw (ready-read (T target) x receiver-ready .running) at (F .own target (receiver-other .below) .outcome))
+  receiver-count = running-count n (T target .outcome) (rw (ready-read (T target) x receiver-ready .running) at (F .own target (target-in-copy F x xn c .below) .outcome))
 
   -- its message is short enough
   pub message-short : h .op .send .count ≤ wordLimit
@@ -58,4 +54,4 @@ module _ {n : ℕ} {T : ℕ → Thread} (F : Formed n T) (x : ℕ) (xn : x < n) 
 
   -- nobody else copies to its receiver, whose lock has one owner
   pub copies-alone : (y : ℕ) → y < n → y ≢ x → copiesTo (T y) ≢ target
-  copies-alone y yn d e = d (sym (copier F target y (receiver-other .below) yn e) ∙ copier F target x (receiver-other .below) xn copies-to-target)
+  copies-alone y yn d e = d (sym (copier F target y (target-in-copy F x xn c .below) yn e) ∙ copier F target x (target-in-copy F x xn c .below) xn copies-to-target)

@@ -20,14 +20,14 @@ use Rattle.laws.proofs.Tables.{edit-at, below-length}
 use Rattle.laws.proofs.Phases.{lock-held-in}
 use Rattle.laws.proofs.Times.{left-from-code, left-falls}
 use Rattle.laws.proofs.Ready.{never-ready}
-use Rattle.laws.proofs.Queues.{senders-joined}
+use Rattle.laws.proofs.Queues.{senders-joined, silent, sends-nowhere}
 use Rattle.formed.proofs.Flags.{cases, flagsFit, told-any-if, fitsIn}
 use Rattle.formed.proofs.Own.{outcomeFits, operationFits, phaseFits, Own}
-use Rattle.invariant.proofs.Changes.{operation-left, bare-fits, own-joined, own-ended}
+use Rattle.invariant.proofs.Alone.{operation-left, bare-fits, own-joined, own-ended}
 use Rattle.formed.proofs.Queues.{queues-join}
-use Rattle.formed.proofs.Copies.{copies-free}
+use Rattle.formed.proofs.Copies.{copies-elsewhere}
 use Rattle.formed.proofs.Formed.{owner, copiesTo, readings, of, Formed}
-use Rattle.formed.proofs.Neighbours.{silent, quiet-in-idle, copies-in, sends-nowhere, queue-room, no-copier, in-phase}
+use Rattle.formed.proofs.Neighbours.{quiet-in-idle, copies-in, queue-room, no-copier, in-phase}
 use Rattle.invariant.proofs.Changed.{kept, here, there, formed-changed, formed-one}
 
 -- what is asked of an operation that thread x begins in a table of n threads
@@ -134,7 +134,7 @@ module _ {n : ℕ} {T : ℕ → Thread} (F : Formed n T) (x : ℕ) (xn : x < n) 
           queues = F .queues;
           owners = F .owners;
           chains = F .chains;
-          copies = copies-free n (of copiesTo T) (of ready T) x _ (no-copier F x xn unowned) (F .copies);
+          copies = copies-elsewhere n (of copiesTo T) (of ready T) x _ (no-copier F x xn unowned) (F .copies);
         })
 
     -- to a target that does not exist
@@ -149,7 +149,7 @@ module _ {n : ℕ} {T : ℕ → Thread} (F : Formed n T) (x : ℕ) (xn : x < n) 
           queues = F .queues;
           owners = F .owners;
           chains = F .chains;
-          copies = copies-free n (of copiesTo T) (of ready T) x _ (no-copier F x xn unowned) (F .copies);
+          copies = copies-elsewhere n (of copiesTo T) (of ready T) x _ (no-copier F x xn unowned) (F .copies);
         })
 
   -- ---- cancel of a running operation
@@ -173,7 +173,7 @@ module _ {n : ℕ} {T : ℕ → Thread} (F : Formed n T) (x : ℕ) (xn : x < n) 
         queues = F .queues;
         owners = F .owners;
         chains = F .chains;
-        copies = copies-free n (of copiesTo T) (of ready T) x _ (no-copier F x xn unowned) (F .copies);
+        copies = copies-elsewhere n (of copiesTo T) (of ready T) x _ (no-copier F x xn unowned) (F .copies);
       })
 
 -- ---- tick

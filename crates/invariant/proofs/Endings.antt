@@ -16,16 +16,16 @@ use Rattle.laws.proofs.Lists.{update-same, update-other}
 use Rattle.laws.proofs.Phases.{lock-held-in}
 use Rattle.laws.proofs.Times.{left-from-code}
 use Rattle.laws.proofs.Ready.{ready-read, never-ready}
-use Rattle.laws.proofs.Queues.{senders-departed}
+use Rattle.laws.proofs.Queues.{senders-departed, silent, sends-to}
 use Rattle.laws.proofs.Decided.{otherOf, afterAction}
 use Rattle.formed.proofs.Flags.{cases, fitsIn}
 use Rattle.formed.proofs.Own.{phaseFits, Own}
 use Rattle.formed.proofs.Facts.{Other, target-other, count-small, queue-small}
-use Rattle.invariant.proofs.Changes.{operation-over, operation-left, release-fits, bare-fits, received-fits, own-departed, own-ended}
+use Rattle.invariant.proofs.Alone.{operation-over, operation-left, release-fits, bare-fits, received-fits, own-departed, own-ended}
 use Rattle.formed.proofs.Queues.{Queues, queues-leave}
-use Rattle.formed.proofs.Copies.{Copies, copies-end, copies-free}
+use Rattle.formed.proofs.Copies.{Copies, copies-end, copies-elsewhere}
 use Rattle.formed.proofs.Formed.{owner, copiesTo, readings, of, Formed}
-use Rattle.formed.proofs.Neighbours.{silent, quiet-in-look, few, copies-in, sends-to, sends-in-check, sends-in-copy, queued-at-target, no-copier, in-phase, in-phase-if}
+use Rattle.formed.proofs.Neighbours.{quiet-in-look, below-nobody, copies-in, sends-in-check, sends-in-copy, queued-at-target, no-copier, in-phase, in-phase-if}
 use Rattle.formed.proofs.Receivers.{receiver-ready, copies-alone}
 use Rattle.invariant.proofs.Changed.{kept, here, there, both, formed-changed}
 
@@ -114,7 +114,7 @@ module _ {n : ℕ} {T : ℕ → Thread} (F : Formed n T) (x : ℕ) (xn : x < n) 
         queues = F .queues;
         owners = F .owners;
         chains = F .chains;
-        copies = copies-free n (of copiesTo T) (of ready T) x _ (no-copier F x xn unowned) (F .copies);
+        copies = copies-elsewhere n (of copiesTo T) (of ready T) x _ (no-copier F x xn unowned) (F .copies);
       })
 
   -- ---- copy: its message is delivered, with a receive part or without
@@ -126,11 +126,11 @@ module _ {n : ℕ} {T : ℕ → Thread} (F : Formed n T) (x : ℕ) (xn : x < n) 
     -- x copies to nobody any more, and neither x nor its target is copied to
     copies-over : (a b : ℕ → Bool) → Copies n (update (of copiesTo T) x nobody) (update (update (of ready T) target a) x b)
     copies-over a b =
-        let l = few F in
+        let l = below-nobody F in
         let below = to sends .below in
-        copies-free n (update (of copiesTo T) x nobody) (update (of ready T) target a) x b
+        copies-elsewhere n (update (of copiesTo T) x nobody) (update (of ready T) target a) x b
         (λ y yn. same? y x (λ e. rw (e, update-same) (omega arith)) (λ d. rw (update-other (of copiesTo T) x nobody y d) (no-copier F x xn unowned y yn)))
-        (copies-free n (update (of copiesTo T) x nobody) (of ready T) target a
+        (copies-elsewhere n (update (of copiesTo T) x nobody) (of ready T) target a
         (λ y yn. same? y x (λ e. rw (e, update-same) (omega arith)) (λ d. rw (update-other (of copiesTo T) x nobody y d) (copies-alone F x xn p y yn d)))
         (copies-end n (of copiesTo T) (of ready T) x l (F .copies)))
 

@@ -79,7 +79,7 @@ accepted-keeps tick s e whole F = record {
 module _ (c : Call) (s : State) where
   -- an accepted call found a well-formed table
   pub found-formed : Shaped (s .table) → refusal c s ≡ 0 → Formed (s .table .n) (at (s .table))
-  found-formed z e = formed-grouped (s .table) (well-formed-told (s .table) (accepted-table c s e .formed)) z
+  found-formed z e = formed-grouped (s .table) (well-formed-told (s .table) (accepted-table c s e)) z
 
   -- what an accepted call leaves
   pub accepted-kept : Shaped (s .table) → refusal c s ≡ 0 → Kept (s .table .n) (next c s .table)

@@ -1,5 +1,5 @@
 pub mod Changed
-pub mod Changes
+pub mod Alone
 pub mod Locking
 pub mod Moves
 pub mod Endings

@@ -11,13 +11,14 @@ use Rattle.model.specs.WellFormed.{nobodyOrBelow, sendsTo}
 use Rattle.model.specs.Step.{takeLock, freeTarget, takeSender, freeSender, ownAfter, otherAfter}
 use Rattle.laws.proofs.Phases.{lock-held-in}
 use Rattle.laws.proofs.Decided.{afterAction}
+use Rattle.laws.proofs.Queues.{sends-nowhere}
 use Rattle.formed.proofs.Flags.{cases, FlagsFit, fitsIn}
 use Rattle.formed.proofs.Own.{phaseFits, Own}
 use Rattle.formed.proofs.Facts.{Other}
-use Rattle.invariant.proofs.Changes.{owner-below, wake-fits, own-owner, own-entering}
+use Rattle.invariant.proofs.Alone.{owner-below, wake-fits, own-owner, own-entering}
 use Rattle.formed.proofs.Locks.{Owners, Chains, owners-take, owners-free, chains-take, chains-free}
 use Rattle.formed.proofs.Formed.{owner, copiesTo, readings, of, Formed}
-use Rattle.formed.proofs.Neighbours.{target-in-lock, quiet-in-look, few, copies-in, target-in-release, woken-in-unlock, queued-sends, sends-nowhere, in-phase, in-phase-if}
+use Rattle.formed.proofs.Neighbours.{target-in-lock, quiet-in-look, below-nobody, copies-in, target-in-release, woken-in-unlock, queued-sends, in-phase, in-phase-if}
 use Rattle.invariant.proofs.Changed.{kept, here, there, formed-changed}
 
 module _ {n : ℕ} {T : ℕ → Thread} (F : Formed n T) (x : ℕ) (xn : x < n) where
@@ -33,11 +34,11 @@ module _ {n : ℕ} {T : ℕ → Thread} (F : Formed n T) (x : ℕ) (xn : x < n) 
   module _ (r : ℕ) (other : Other n x r) (unowned : h .owner ≡ nobody) (free : T r .owner ≡ nobody) (empty : lockHeld h ≡ nobody) where
     -- the clause on owners
     taken-owners : Owners n (update (of owner T) r x) (update (of lockHeld T) x r)
-    taken-owners = owners-take n (few F) (of owner T) (of lockHeld T) x r xn (other .below) free empty (F .owners)
+    taken-owners = owners-take n (below-nobody F) (of owner T) (of lockHeld T) x r xn (other .below) free empty (F .owners)
 
     -- the clause on chains
     taken-chains : Chains n (update (of owner T) r x)
-    taken-chains = chains-take n (few F) (of owner T) x r xn (other .below) unowned (λ e. other .apart (sym e)) (F .chains)
+    taken-chains = chains-take n (below-nobody F) (of owner T) x r xn (other .below) unowned (λ e. other .apart (sym e)) (F .chains)
 
     -- the other thread by itself
     taken-other : r < n → Own n r (withOwner x (T r))
@@ -134,8 +135,8 @@ module _ {n : ℕ} {T : ℕ → Thread} (F : Formed n T) (x : ℕ) (xn : x < n) 
         own = own-entering (F .own x xn) q flags fits;
         queues = F .queues;
         owners = subst (λ (held : ℕ). Owners n (update (of owner T) r nobody) (update (of lockHeld T) x held)) (sym empty)
-            (owners-free n (few F) (of owner T) (of lockHeld T) x r xn (other .below) has (F .owners));
-        chains = chains-free n (few F) (of owner T) r (other .below) (F .chains);
+            (owners-free n (below-nobody F) (of owner T) (of lockHeld T) x r xn (other .below) has (F .owners));
+        chains = chains-free n (below-nobody F) (of owner T) r (other .below) (F .chains);
         copies = F .copies;
       })
 

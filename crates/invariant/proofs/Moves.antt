@@ -10,7 +10,7 @@ use Rattle.laws.proofs.Phases.{lock-held-in}
 use Rattle.laws.proofs.Decided.{otherOf, afterAction}
 use Rattle.formed.proofs.Flags.{cases, fitsIn}
 use Rattle.formed.proofs.Own.{phaseFits, Own}
-use Rattle.invariant.proofs.Changes.{release-fits, copy-fits, unlock-fits, own-unpolled, own-entering}
+use Rattle.invariant.proofs.Alone.{release-fits, copy-fits, unlock-fits, own-unpolled, own-entering}
 use Rattle.formed.proofs.Copies.{copies-start}
 use Rattle.formed.proofs.Formed.{owner, copiesTo, readings, of, Formed}
 use Rattle.formed.proofs.Neighbours.{target-in-check, number, copies-in, woken-in-wake, in-phase, in-phase-if}

@@ -91,7 +91,7 @@ copied-count t w x xn c =
 copied-below : (x : ℕ) (s : State) → refusal (step x) s ≡ 0 → decide (s .table) x ≡ copyWord → at (s .table) x .copied < wordLimit
 copied-below x s e i =
     let f : TestedFor (s .table) x copyWord = subst (TestedFor (s .table) x) i (decided (s .table) x) in
-    omega (arith, f .1, copied-count (s .table) (well-formed-told (s .table) (accepted-table (step x) s e .formed)) x (accepted-step x s e .below) (f .0))
+    omega (arith, f .1, copied-count (s .table) (well-formed-told (s .table) (accepted-table (step x) s e)) x (accepted-step x s e .below) (f .0))
 
 -- every accepted call
 accepted-words : (c : Call) (s : State) → refusal c s ≡ 0 → (y : ℕ) → (wordsAt (acceptedState c s .store) y ≡ wordsAt (s .store) y) ⊎ Writes s y c

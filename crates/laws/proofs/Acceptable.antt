@@ -4,16 +4,10 @@ use mathlib.Core.Bool.{true}
 use Prim.Native.Nat.{ℕ}
 use Rattle.model.specs.declared.Receive.{Receive}
 use Rattle.model.specs.declared.Receive.the-variants.{Absent, Open, Closed}
-use Rattle.model.specs.Shared.{hasReceive, accepts, closedOn}
+use Rattle.model.specs.Shared.{hasReceive, accepts}
 
 -- a receive part that accepts somebody is there
 pub accepts-there : (w : Receive) (s : ℕ) → accepts w s ≡ true → hasReceive w ≡ true
 accepts-there Absent s e = e
 accepts-there (Open t) s e = refl
 accepts-there (Closed t) s e = refl
-
--- one that is closed on s accepts s
-pub closed-accepts : (w : Receive) (s : ℕ) → closedOn w s ≡ true → accepts w s ≡ true
-closed-accepts Absent s e = e
-closed-accepts (Open t) s e = refl
-closed-accepts (Closed t) s e = e

@@ -1,8 +1,8 @@
 -- What a call answers and leaves in each of its cases: refused and not, the three of begin and the two of cancel.
 use mathlib.Core.Path.{_≡_, refl, sym, _∙_, subst}
-use mathlib.Core.Bool.{Bool, true, false, cond, _&&_}
+use mathlib.Core.Bool.{true, false, _&&_}
 use mathlib.Core.Option.{none}
-use Prim.Native.Nat.{ℕ, zero, suc, _<_}
+use Prim.Native.Nat.{ℕ, suc, _<_}
 use native.Mathlib.Omega.{arith}
 use lib.Dec.{leb}
 use borrow.Author.Tests.{leb-false}
@@ -17,6 +17,7 @@ use Rattle.model.specs.Refusals.{unless, refusal}
 use Rattle.model.specs.Promise.{answer, next, Promise}
 use Rattle.model.specs.Linearized.{acceptedEntry, entry}
 use Rattle.model.proofs.Laws.{by}
+use Rattle.laws.proofs.Lists.{cond-true, cond-false, zero-or-not}
 use Rattle.model.proofs.Free.{target-beyond}
 
 -- ---- every call
@@ -30,19 +31,6 @@ module _ {ℓ} {A : Type ℓ} where
   unless-refused : (g : ℕ) (f : ℕ → A) (a : A) (k : ℕ) → g ≡ suc k → unless g f a ≡ f (suc k)
   unfolding unless
   unless-refused g f a k e = rw e refl
-
-  -- a choice by a test that holds is its first side
-  cond-true : (b : Bool) (a c : A) → b ≡ true → cond b a c ≡ a
-  cond-true b a c e = rw e refl
-
-  -- a choice by a test that fails is its second side
-  cond-false : (b : Bool) (a c : A) → b ≡ false → cond b a c ≡ c
-  cond-false b a c e = rw e refl
-
--- a number is 0 or not
-zero-or-not {ℓ} : {P : Type ℓ} (k : ℕ) → (k ≡ 0 → P) → ((g : ℕ) → k ≡ suc g → P) → P
-zero-or-not zero f h = f refl
-zero-or-not (suc g) f h = h g refl
 
 module _ (c : Call) (s : State) where
   -- a call is refused or not

@@ -1,15 +1,16 @@
 -- Laws of functions changed at one place, of lists read and searched, and of tests. None is about messages.
 use mathlib.Core.Path.{_≡_, refl, fun-ext}
 use mathlib.Core.Logic.{_≢_}
-use mathlib.Core.Bool.{Bool, true, false, _||_}
+use mathlib.Core.Bool.{Bool, true, false, cond, _&&_, _||_}
 use mathlib.Core.Option.{none, some}
 use mathlib.Core.List.{List, [], _∷_}
-use Prim.Native.Nat.{ℕ, suc, _+_, _-_, _≤_}
+use Prim.Native.Nat.{ℕ, zero, suc, _+_, _-_, _≤_, _<_}
 use native.Mathlib.Omega.{arith}
-use lib.ListN.{length, getElem?}
+use lib.ListN.{length, getD, getElem?, take}
+use lib.Seq.{take-suc}
 use lib.Dec.{eqb}
 use borrow.Author.Tests.{eqb-true, eq-eqb, ne-eqb}
-use Rattle.model.specs.Lists.{bit, occurs, without, placeWhere, update}
+use Rattle.model.specs.Lists.{bit, occurs, without, placeWhere, upTo, update}
 use Rattle.model.proofs.Laws.{by, same?}
 
 -- ---- a function with another value at one place
@@ -28,6 +29,21 @@ module _ {ℓ} {A : Type ℓ} where
   pub update-own : (f : ℕ → A) (x : ℕ) → update f x (f x) ≡ f
   update-own f x = fun-ext (λ y. same? y x (λ e. rw (e, update-same f x (f x)) refl) (λ d. update-other f x (f x) y d))
 
+-- ---- cases
+module _ {ℓ} {A : Type ℓ} where
+  -- a choice by a test that holds is its first side
+  pub cond-true : (b : Bool) (a c : A) → b ≡ true → cond b a c ≡ a
+  cond-true b a c e = rw e refl
+
+  -- a choice by a test that fails is its second side
+  pub cond-false : (b : Bool) (a c : A) → b ≡ false → cond b a c ≡ c
+  cond-false b a c e = rw e refl
+
+-- a number is 0 or not
+pub zero-or-not {ℓ} : {P : Type ℓ} (k : ℕ) → (k ≡ 0 → P) → ((g : ℕ) → k ≡ suc g → P) → P
+zero-or-not zero f h = f refl
+zero-or-not (suc g) f h = h g refl
+
 -- ---- tests
 -- where neither of two tests holds, the first does not
 pub or-left : (a b : Bool) → (a || b) ≡ false → a ≡ false
@@ -39,11 +55,21 @@ pub or-right : (a b : Bool) → (a || b) ≡ false → b ≡ false
 or-right true b e = cc
 or-right false b e = e
 
+-- where two tests do not hold together, the second fails where the first holds
+pub second-fails : (a b : Bool) → (a && b) ≡ false → a ≡ true → b ≡ false
+second-fails true b e h = e
+second-fails false b e h = cc
+
 -- ---- how often a number stands in a list
 -- a bit is at most 1
 pub bit-small : (b : Bool) → bit b ≤ 1
 bit-small true = omega arith
 bit-small false = omega arith
+
+-- a test that counts holds
+pub bit-holds : (b : Bool) → 1 ≤ bit b → b ≡ true
+bit-holds true h = refl
+bit-holds false h = absurd (omega arith)
 
 -- a list that has s has one number less without it
 pub length-one-less : (s : ℕ) (q : List ℕ) → 1 ≤ occurs s q → length (without s q) ≡ length q - 1
@@ -82,3 +108,10 @@ none-found f (a ∷ q) s e h =
     by (eqb a s)
     (λ i. let j : a ≡ s = eqb-true a s i in cc)
     (λ i. let l : 1 ≤ bit false + occurs s q = rw i at h in none-found f q s k (omega arith)))
+
+-- ---- the first numbers of a list
+-- a list that is f at each of its first k places starts with f's first k values
+pub take-up-to {ℓ} : {A : Type ℓ} (l : List A) (d : A) (k : ℕ) (f : ℕ → A) → k ≤ length l → ((j : ℕ) → j < k → getD l j d ≡ f j) → take k l ≡ upTo k f
+unfolding upTo
+take-up-to l d zero f long h = refl
+take-up-to l d (suc k) f long h = rw (take-suc l k d (omega arith), take-up-to l d k f (omega arith) (λ j i. h j (omega arith)), h k (omega arith)) refl

@@ -1,14 +1,17 @@
--- Laws of a thread's queue: what joining it and leaving it make of the waiting senders.
-use mathlib.Core.Path.{_≡_, ap, _∙_}
+-- Laws of a thread's queue: what joining it and leaving it make of the waiting senders, and who sends to whom.
+use mathlib.Core.Path.{_≡_, refl, ap, _∙_, fun-ext}
+use mathlib.Core.Bool.{Bool, true, false}
 use mathlib.Core.List.{[], _∷_, _++_}
 use Prim.Native.Nat.{ℕ, _+_, _-_, _≤_, _<_}
 use native.Mathlib.Numerals.{add-one}
 use native.Mathlib.Omega.{arith}
 use lib.ListN.{length, drop, length-append, length-drop, length-set}
 use lib.Seq.{length-take-le, take-at, take-suc-set}
+use lib.Dec.{eqb}
 use Rattle.model.specs.declared.Thread.{Thread}
 use Rattle.model.specs.Lists.{occurs, without}
 use Rattle.model.specs.Threads.{senders, joined, departed}
+use Rattle.model.specs.WellFormed.{sendsTo}
 use Rattle.laws.proofs.Lists.{length-one-less}
 
 module _ (s : ℕ) (h : Thread) (whole : length (h .queue .items) ≡ 32) where
@@ -42,3 +45,18 @@ module _ (s : ℕ) (h : Thread) (whole : length (h .queue .items) ≡ 32) where
     pub joined-length : length (joined s h .queue .items) ≡ 32
     unfolding joined
     joined-length = length-set (h .queue .items) (h .queue .len) s ∙ whole
+
+-- ---- who sends to whom
+-- a thread that sends, to whom it sends
+pub sends-to : (h : Thread) → h .flags .send ≡ true → (u : ℕ) → sendsTo h u ≡ eqb (h .op .send .target) u
+unfolding sendsTo
+sends-to h e u = rw e refl
+
+-- one that does not send, sends to nobody
+pub sends-nowhere : (h : Thread) → h .flags .send ≡ false → (u : ℕ) → sendsTo h u ≡ false
+unfolding sendsTo
+sends-nowhere h e u = rw e refl
+
+-- the same of the whole function
+pub silent : (h : Thread) → h .flags .send ≡ false → _≡_ {A = ℕ → Bool} (sendsTo h) (λ u. false)
+silent h e = fun-ext (sends-nowhere h e)

@@ -8,7 +8,7 @@ use Rattle.model.specs.Lists.{allOf}
 use Rattle.model.specs.Shared.{accepts}
 use Rattle.model.specs.Threads.{ready}
 use Rattle.model.specs.Atomic.{Machine, acceptsIn, isReceiving, readyFor}
-use Rattle.model.proofs.Laws.{_and_, all-of-read, all-of-made}
+use Rattle.model.proofs.Laws.{all-of-read}
 
 -- thread h is ready for s
 pub record IsReady (h : Thread) (s : ℕ) : Type 0 where
@@ -24,11 +24,6 @@ unfolding ready
 ready-read h s e =
     let (running, (receiving, (notSending, (unmarked, (accepting, end))))) = all-of-read _ e in
     record { running = running; receiving = receiving; notSending = not-true (h .flags .send) notSending; unmarked = not-true (h .flags .mark) unmarked; accepting = accepting }
-
--- a ready thread passes the test
-pub ready-made : (h : Thread) (s : ℕ) → IsReady h s → ready h s ≡ true
-unfolding ready
-ready-made h s r = all-of-made _ (r .running and r .receiving and rw (r .notSending) refl and rw (r .unmarked) refl and r .accepting and tt)
 
 -- a thread that does not run a receive is ready for nobody
 pub not-ready : (h : Thread) → (h .flags .ipc && h .flags .receiving && not (h .flags .send)) ≡ false → (s : ℕ) → ready h s ≡ false

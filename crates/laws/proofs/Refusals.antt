@@ -11,15 +11,14 @@ use borrow.Author.Tests.{ltb-true, ltb-false, leb-false, le-leb, lt-ltb, eqb-tru
 use Rattle.model.specs.declared.Receive.{Receive}
 use Rattle.model.specs.declared.Receive.the-variants.{Absent, Open, Closed}
 use Rattle.model.specs.declared.Operation.{Operation}
-use Rattle.model.specs.declared.Table.{Table}
 use Rattle.model.specs.Shared.{wordLimit, isTimeCode, hasReceive, receiveTime, closedOn, targetBeyond}
 use Rattle.model.specs.Threads.{idle, phaseOf, at, lockFree}
-use Rattle.model.specs.WellFormed.{sizeInRange, inPhase, sendInRange, receiveInRange, wellFormed}
+use Rattle.model.specs.WellFormed.{inPhase, sendInRange, receiveInRange, wellFormed}
 use Rattle.model.specs.Calls.{Call, begin, step, cancel, tick, State}
 use Rattle.model.specs.Refusals.{Row, firstRefusal, badSize, notWellFormed, noThread, badLength, lockOwned, notIdle, neitherPart, withItself, closedBeyond, noPartner, tooManyWords, badTime, threadAndStoreRows, rowsOf, refusal, outcomeRefusal}
 use Rattle.model.proofs.Laws.{by, and-left, and-right, implies-made, _and_, all-of-made}
 use Rattle.laws.proofs.Phases.{in-idle}
-use Rattle.laws.proofs.Lists.{or-left, or-right}
+use Rattle.laws.proofs.Lists.{or-left, or-right, second-fails}
 
 -- ---- a list of rows
 -- no row has number 0
@@ -55,11 +54,6 @@ unfolding refusal
 accepted-rows c s e = none-holds (rowsOf c s) (rows-numbered c s) e
 
 -- ---- what a call that is not refused has been tested for
--- every call: the table is well-formed
-pub record AcceptedTable (t : Table) : Type 0 where
-  pub size : sizeInRange (t .n) ≡ true
-  pub formed : wellFormed t ≡ true
-
 -- step, and the outcome call
 pub record AcceptedStep (s : State) (x : ℕ) : Type 0 where
   pub below : x < s .table .n
@@ -82,18 +76,17 @@ pub record AcceptedBegin (s : State) (x : ℕ) (o : Operation) : Type 0 where
   pub sends : targetBeyond (s .table .n) o ≡ false → sendInRange (s .table .n) (o .send) ≡ true
   pub receives : receiveInRange (s .table .n) (o .receive) ≡ true
 
--- the first two rows are the same for every call
-first-rows : (c : Call) (s : State) → NoneHolds (rowsOf c s) → (not (sizeInRange (s .table .n)) ≡ false) × (not (wellFormed (s .table)) ≡ false)
+-- the second row is the same for every call
+second-row : (c : Call) (s : State) → NoneHolds (rowsOf c s) → not (wellFormed (s .table)) ≡ false
 unfolding rowsOf threadAndStoreRows badSize notWellFormed
-first-rows (begin x o) s r = (r .0, r .1 .0)
-first-rows (step x) s r = (r .0, r .1 .0)
-first-rows (cancel x) s r = (r .0, r .1 .0)
-first-rows tick s r = (r .0, r .1 .0)
+second-row (begin x o) s r = r .1 .0
+second-row (step x) s r = r .1 .0
+second-row (cancel x) s r = r .1 .0
+second-row tick s r = r .1 .0
 
 -- every call that is not refused finds a well-formed table
-pub accepted-table : (c : Call) (s : State) → refusal c s ≡ 0 → AcceptedTable (s .table)
-accepted-table c s e = let (size, formed) = first-rows c s (accepted-rows c s e) in
-    record { size = not-false (sizeInRange (s .table .n)) size; formed = not-false (wellFormed (s .table)) formed }
+pub accepted-table : (c : Call) (s : State) → refusal c s ≡ 0 → wellFormed (s .table) ≡ true
+accepted-table c s e = not-false (wellFormed (s .table)) (second-row c s (accepted-rows c s e))
 
 -- a step that is not refused is of a thread of the table, and the store has its words
 pub accepted-step : (x : ℕ) (s : State) → refusal (step x) s ≡ 0 → AcceptedStep s x
@@ -111,11 +104,6 @@ pub accepted-cancel : (x : ℕ) (s : State) → refusal (cancel x) s ≡ 0 → A
 unfolding rowsOf noThread lockOwned
 accepted-cancel x s e = let (size, (formed, (below, (free, end)))) = accepted-rows (cancel x) s e in
     record { below = leb-false (s .table .n) x below; free = not-false (lockFree (at (s .table) x)) free }
-
--- where two tests do not hold together, the second fails where the first holds
-second-fails : (a b : Bool) → (a && b) ≡ false → a ≡ true → b ≡ false
-second-fails true b e h = e
-second-fails false b e h = cc
 
 -- a send part whose target is in the table has its numbers in range
 send-in-range : (n : ℕ) (o : Operation) → (o .send .present ≡ true → o .send .count ≤ wordLimit) → (o .send .present ≡ true → isTimeCode (o .send .time) ≡ true)

@@ -2,25 +2,19 @@
 use mathlib.Core.Path.{_≡_, refl, ap, _∙_}
 use mathlib.Core.Logic.{_≢_, _⊎_, inl, inr, ⊎-elim}
 use mathlib.Core.List.{List, [], _∷_}
-use Prim.Native.Nat.{ℕ, zero, suc, _+_, _-_, _*_, _≤_, _<_}
+use Prim.Native.Nat.{ℕ, suc, _+_, _-_, _*_, _≤_, _<_}
 use native.Mathlib.Omega.{arith}
 use lib.ListN.{length, getD, set, take, drop, replicate, length-drop, length-set}
-use lib.Seq.{length-take-le, take-suc, getD-set-same, getD-set-other, take-set-le, drop-set-lt, drop-set-add, getD-take, getD-drop, sets, length-sets}
+use lib.Seq.{length-take-le, getD-set-same, getD-set-other, take-set-le, drop-set-lt, drop-set-add, getD-take, getD-drop, sets, length-sets}
 use lib.Dec.{ltb}
 use borrow.Author.Tests.{ltb-true, ltb-false}
 use Rattle.model.specs.declared.SendPart.{SendPart}
 use Rattle.model.specs.declared.Thread.{Thread}
-use Rattle.model.specs.Lists.{upTo}
 use Rattle.model.specs.Shared.{wordLimit, message}
 use Rattle.model.specs.Threads.{wordsAt, zeroed}
 use Rattle.model.specs.Step.{Action, stay, takeLock, abortSend, startCopy, toRelease, copyWord, finishCall, finishSend, freeTarget, retry, toIdle, abortReceive, takeSender, clearPoll, freeSender, wordCopied, storeAfter}
+use Rattle.laws.proofs.Lists.{take-up-to}
 use Rattle.model.proofs.Laws.{by}
-
--- a list that is f at each of its first k places starts with f's first k values
-pub take-up-to {ℓ} : {A : Type ℓ} (l : List A) (d : A) (k : ℕ) (f : ℕ → A) → k ≤ length l → ((j : ℕ) → j < k → getD l j d ≡ f j) → take k l ≡ upTo k f
-unfolding upTo
-take-up-to l d zero f long h = refl
-take-up-to l d (suc k) f long h = rw (take-suc l k d (omega arith), take-up-to l d k f (omega arith) (λ j i. h j (omega arith)), h k (omega arith)) refl
 
 -- the place of thread y's j-th word
 abbrev pub wordPlace : ℕ → ℕ → ℕ

@@ -1,7 +1,7 @@
 -- Concrete traces, replayed by computation: after every call both machines show the same, every event is allowed where it stands and answered
 -- alike, and the last table is well-formed. That this holds of every trace is the linearization theorem; each of these traces tells a wrong machine from ours.
 use mathlib.Core.Path.{_≡_, refl}
-use mathlib.Core.Bool.{true, false}
+use mathlib.Core.Bool.{true}
 use mathlib.Core.List.{List, [], _∷_, _++_}
 use lib.ListN.{replicate}
 use Rattle.model.specs.declared.Receive.the-variants.{Absent}
@@ -15,13 +15,13 @@ use Rattle.model.proofs.Replay.{agree}
 use Rattle.model.proofs.Computing.{computing}
 
 -- a trace, by what it shows
-pub data Name : Type 0 where
-  ready-at-time-0 sender-waits-at-time-0 time-runs-out marked-receiver receiver-still-sending : Name
-  new-time-for-the-receive no-time-for-the-receive mark-kept-past-the-send receive-dropped-with-the-send received-in-wake : Name
-  words-of-two-messages cancels-answered begins-refused : Name
+pub data TraceName : Type 0 where
+  ready-at-time-0 sender-waits-at-time-0 time-runs-out marked-receiver receiver-still-sending : TraceName
+  new-time-for-the-receive no-time-for-the-receive mark-kept-past-the-send receive-dropped-with-the-send received-in-wake : TraceName
+  words-of-two-messages cancels-answered begins-refused : TraceName
 
 -- its calls, on a new table of three threads
-unfoldable pub calls : Name → List Call
+unfoldable pub calls : TraceName → List Call
 -- a send with no time left finds its target ready
 calls ready-at-time-0 = begin 1 (receiveOnly (openFor 15)) ∷ begin 0 (sendTo 1 (250 ∷ []) 0 Absent) ∷ steps 5 0
 -- a receive with no time left finds a sender
@@ -60,7 +60,7 @@ abbrev pub first : State
 first = state (newTable 3) (replicate 24 7)
 
 -- both machines go together
-pub replays : (name : Name) → agree 3 first firstMachine (calls name) ≡ true
+pub replays : (name : TraceName) → agree 3 first firstMachine (calls name) ≡ true
 unfolding computing calls
 replays ready-at-time-0 = refl
 replays sender-waits-at-time-0 = refl

@@ -1,14 +1,15 @@
 -- Where each entry was allowed, each completed send part is in exactly one rendezvous, with a completed receive part; likewise each completed receive part.
-use mathlib.Core.Path.{_≡_, refl, sym, ap}
+use mathlib.Core.Path.{_≡_, sym, ap}
 use mathlib.Core.Logic.{⊎-elim}
-use mathlib.Core.Bool.{Bool, true, false}
+use mathlib.Core.Bool.{true}
 use mathlib.Core.List.{List, [], _∷_, map}
 use Prim.Native.Nat.{ℕ, _≤_}
 use native.Mathlib.Omega.{arith}
 use borrow.Author.Tests.{eq-eqb}
 use Rattle.model.specs.declared.Operation.{Operation}
-use Rattle.model.specs.Lists.{bit, occurs}
+use Rattle.model.specs.Lists.{occurs}
 use Rattle.model.specs.Linearization.{Entry, pairs, fate, BeginsAt, Among, Paired}
+use Rattle.laws.proofs.Lists.{bit-holds}
 use Rattle.pairing.proofs.Sides.{Side, sender, receiver, placeOn, completed}
 use Rattle.pairing.proofs.Operations.{AllAllowed}
 use Rattle.pairing.proofs.Counting.{counted}
@@ -19,11 +20,6 @@ pub among-counted : (f : ℕ × ℕ → ℕ) (pair : ℕ × ℕ) (l : List (ℕ 
 unfolding occurs
 among-counted f pair [] a = absurd a
 among-counted f pair (q ∷ l) a = ⊎-elim (λ e. rw (eq-eqb (f q) (f pair) (sym (ap f e))) (omega arith)) (λ h. omega (arith, among-counted f pair l h)) a
-
--- a test that counts holds
-bit-holds : (b : Bool) → 1 ≤ bit b → b ≡ true
-bit-holds true h = refl
-bit-holds false h = absurd (omega arith)
 
 -- both parts of a pair are completed
 pair-completed : (side : Side) (n x : ℕ) (o : Operation) (pair : ℕ × ℕ) (past : List Entry)

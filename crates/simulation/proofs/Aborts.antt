@@ -16,7 +16,7 @@ use Rattle.laws.proofs.Decided.{otherOf, afterAction}
 use Rattle.formed.proofs.Flags.{isOneOf}
 use Rattle.formed.proofs.Facts.{target-other}
 use Rattle.formed.proofs.Formed.{copiesTo}
-use Rattle.formed.proofs.Neighbours.{quiet-in-look, few, sends-in-check, sends-queued}
+use Rattle.formed.proofs.Neighbours.{quiet-in-look, below-nobody, sends-in-check, sends-queued}
 use Rattle.simulation.proofs.Abstraction.{abstraction, CopiedBy, copies-nowhere}
 use Rattle.simulation.proofs.Leads.{Simulates, Leads, same-store, own-leads}
 use Rattle.simulation.proofs.Conditions.{mark-alike, left-alike, sends-alike, receives-alike, ready-alike, queued-alike}
@@ -66,7 +66,7 @@ module _ {n : ℕ} {p : Machine} {T : ℕ → Thread} {store : List ℕ} (S : Si
         → Leads n (some (aborts x c)) p (afterAction a T x) store
     unfolding play
     aborts-lead a its ends copied calm = own-leads S x xn store (same-store S x xn) (some (aborts x c)) (xn, can) (otherOf a h) (otherAfter a x h (T (otherOf a h))) (ownAfter a h)
-        (ending (codeOnly c) [] (p x)) refl its (ap (ending (codeOnly c) []) (S .like x xn) ∙ ends _) copied (copies-nowhere n store (ownAfter a h) (few (S .formed)) calm)
+        (ending (codeOnly c) [] (p x)) refl its (ap (ending (codeOnly c) []) (S .like x xn) ∙ ends _) copied (copies-nowhere n store (ownAfter a h) (below-nobody (S .formed)) calm)
 
     -- of a send
     pub abort-send-leads : Leads n (some (aborts x c)) p (afterAction (abortSend c) T x) store

@@ -21,7 +21,7 @@ use Rattle.laws.proofs.Refusals.{AcceptedBegin}
 use Rattle.laws.proofs.Calls.{begin-cases}
 use Rattle.formed.proofs.Flags.{cases, isOneOf}
 use Rattle.formed.proofs.Formed.{copiesTo}
-use Rattle.formed.proofs.Neighbours.{in-phase, copies-in, few, no-copier}
+use Rattle.formed.proofs.Neighbours.{in-phase, copies-in, below-nobody, no-copier}
 use Rattle.simulation.proofs.Abstraction.{abstraction, copies-nowhere, copied-kept}
 use Rattle.simulation.proofs.Leads.{Simulates, Leads, OthersKept, own-leads, alone-leads}
 use Rattle.simulation.proofs.Conditions.{rests-alike}
@@ -59,7 +59,7 @@ module _ {n : ℕ} {p : Machine} {T : ℕ → Thread} {store : List ℕ} (S : Si
   beyond-leads : targetBeyond n o ≡ true → Leads n (some (begins x o)) p (update T x (ended (codeOnly noReceiver) h)) after
   unfolding play beginning abstraction copiesTo
   beyond-leads far = alone-leads S x xn after zeroed-kept (some (begins x o)) may (ended (codeOnly noReceiver) h) (beginning n o (p x)) refl
-      (rw far (ap (ending (codeOnly noReceiver) []) (S .like x xn))) (copies-nowhere n after (ended (codeOnly noReceiver) h) (few (S .formed)) calm)
+      (rw far (ap (ending (codeOnly noReceiver) []) (S .like x xn))) (copies-nowhere n after (ended (codeOnly noReceiver) h) (below-nobody (S .formed)) calm)
 
   -- else x begins alike in both machines, whatever its phase
   begun-alike : (q : Phase) → targetBeyond n o ≡ false → beginning n o (p x) ≡ abstraction (begun o q h) (wordsAt after x)
@@ -70,13 +70,13 @@ module _ {n : ℕ} {p : Machine} {T : ℕ → Thread} {store : List ℕ} (S : Si
   to-send-leads : targetBeyond n o ≡ false → Leads n (some (begins x o)) p (update (update T (o .send .target) (joined x (T (o .send .target)))) x (begun o lock h)) after
   unfolding play begun joined abstraction copiesTo isOneOf
   to-send-leads near = own-leads S x xn after zeroed-kept (some (begins x o)) may (o .send .target) (joined x (T (o .send .target))) (begun o lock h) (beginning n o (p x)) refl refl
-      (begun-alike lock near) (λ k. k) (copies-nowhere n after (begun o lock h) (few (S .formed)) refl)
+      (begun-alike lock near) (λ k. k) (copies-nowhere n after (begun o lock h) (below-nobody (S .formed)) refl)
 
   -- without one
   to-receive-leads : targetBeyond n o ≡ false → Leads n (some (begins x o)) p (update T x (begun o look h)) after
   unfolding play begun copiesTo isOneOf
   to-receive-leads near = alone-leads S x xn after zeroed-kept (some (begins x o)) may (begun o look h) (beginning n o (p x)) refl
-      (begun-alike look near) (copies-nowhere n after (begun o look h) (few (S .formed)) refl)
+      (begun-alike look near) (copies-nowhere n after (begun o look h) (below-nobody (S .formed)) refl)
 
 -- an accepted begin is its event
 pub begin-leads : (s : State) {p : Machine} → Simulates (s .table .n) p (at (s .table)) (s .store) → length (s .table .threads) ≡ 32 → (x : ℕ) (o : Operation) → AcceptedBegin s x o

@@ -11,9 +11,9 @@ use Rattle.model.specs.Shared.{accepts}
 use Rattle.model.specs.Threads.{ready}
 use Rattle.model.specs.WellFormed.{sendsTo}
 use Rattle.model.specs.Atomic.{nothing, sending, receiving, runs, AtomicThread, Machine, QueuedAt, acceptsIn, isReceiving, readyFor}
+use Rattle.laws.proofs.Queues.{sends-to}
 use Rattle.formed.proofs.Flags.{cases, told-any}
 use Rattle.formed.proofs.Facts.{sends-runs}
-use Rattle.formed.proofs.Neighbours.{sends-to}
 use Rattle.simulation.proofs.Abstraction.{runOf, runs-with-ipc, abstraction}
 use Rattle.simulation.proofs.Leads.{Simulates}
 

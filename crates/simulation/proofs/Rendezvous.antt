@@ -17,8 +17,8 @@ use Rattle.laws.proofs.Decided.{afterAction}
 use Rattle.formed.proofs.Flags.{isOneOf}
 use Rattle.formed.proofs.Facts.{sends-runs}
 use Rattle.formed.proofs.Formed.{copiesTo}
-use Rattle.formed.proofs.Neighbours.{few, sends-in-copy}
-use Rattle.formed.proofs.Receivers.{receiver-other, copies-to-target, receiver-ready, message-short}
+use Rattle.formed.proofs.Neighbours.{target-in-copy, below-nobody, sends-in-copy}
+use Rattle.formed.proofs.Receivers.{copies-to-target, receiver-ready, message-short}
 use Rattle.simulation.proofs.Abstraction.{abstraction, copies-nowhere}
 use Rattle.simulation.proofs.Leads.{Simulates, Leads, same-store, both-lead}
 use Rattle.simulation.proofs.Conditions.{sends-alike, ready-alike}
@@ -36,7 +36,7 @@ module _ {n : ℕ} {p : Machine} {T : ℕ → Thread} {store : List ℕ} (S : Si
 
   -- its target is a thread of the table
   below : target < n
-  below = receiver-other (S .formed) x xn c .below
+  below = target-in-copy (S .formed) x xn c .below
 
   -- it sends
   sends : p x .run ≡ sending (h .op)
@@ -65,7 +65,7 @@ module _ {n : ℕ} {p : Machine} {T : ℕ → Thread} {store : List ℕ} (S : Si
   unfolding play received departed copiesTo
   rendezvous-leads f alike calm = both-lead S x xn store (same-store S x xn) (some (rendezvous x target)) may target (received x h (T target)) f
       (receiverAfter x (p x .run) (p target)) (senderAfter (p x .run) (p x)) refl
-      (λ rn d. receiver-alike) alike (λ rn d. S .copied target rn) (copies-nowhere n store f (few (S .formed)) calm)
+      (λ rn d. receiver-alike) alike (λ rn d. S .copied target rn) (copies-nowhere n store f (below-nobody (S .formed)) calm)
 
   -- with a receive part it receives
   pub finish-call-leads : hasReceive (h .op .receive) ≡ true → Leads n (some (rendezvous x target)) p (afterAction finishCall T x) store

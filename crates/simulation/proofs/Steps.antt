@@ -16,7 +16,7 @@ use Rattle.model.specs.Linearized.{eventOf}
 use Rattle.laws.proofs.Decided.{TestedFor, AbortsSend, AbortsReceive, GoesOn, sending, receiving, ended, decided, otherOf, afterAction}
 use Rattle.formed.proofs.Flags.{isOneOf}
 use Rattle.formed.proofs.Formed.{copiesTo}
-use Rattle.formed.proofs.Neighbours.{few}
+use Rattle.formed.proofs.Neighbours.{below-nobody}
 use Rattle.invariant.proofs.Steps.{act-changes}
 use Rattle.simulation.proofs.Abstraction.{abstraction, CopiedBy, copies-nowhere, copied-nothing}
 use Rattle.simulation.proofs.Leads.{Simulates, Leads, same-store, none-leads}
@@ -37,7 +37,7 @@ module _ (t : Table) {p : Machine} {store : List ℕ} (S : Simulates (t .n) p (a
 
   -- after the action x copies to nobody
   nowhere : (a : Action) → copiesTo (ownAfter a h) ≡ nobody → CopiedBy (t .n) store (ownAfter a h)
-  nowhere a = copies-nowhere (t .n) store (ownAfter a h) (few (S .formed))
+  nowhere a = copies-nowhere (t .n) store (ownAfter a h) (below-nobody (S .formed))
 
   -- x goes on from release
   goes-on : (q : Phase) → GoesOn t x q → Leads (t .n) none p (afterAction (freeTarget q) (at t) x) store
