@@ -77,7 +77,7 @@ module _ (t : Table) (w : WellFormed t) (z : Shaped t) where
     items = z .queues x xn;
   }
 
-  -- read in this form
+  -- a well-formed table whose arrays have their lengths is `Formed`
   pub formed-grouped : Formed (t .n) (at t)
   unfolding ownerOf within
   formed-grouped = record {

@@ -54,54 +54,54 @@ module _ {n : ℕ} {T : ℕ → Thread} (F : Formed n T) where
         → g (T x .flags) (hasReceive (T x .op .receive)) (T x .op .send .present) ≡ true → f (T x .flags) (hasReceive (T x .op .receive)) (T x .op .send .present) ≡ true
     in-phase-if p e g f t k = told-if (T x) (F .own x xn .flags) (phaseNumber p) (number x xn p e) g f t k
 
-    -- in lock it sends
+    -- a thread in lock sends
     pub sends-in-lock : phaseOf (T x .phase) ≡ lock → T x .flags .send ≡ true
     unfolding cases
     sends-in-lock e = in-phase lock e (λ v r s. v .send) refl
 
-    -- in check
+    -- a thread in check sends
     pub sends-in-check : phaseOf (T x .phase) ≡ check → T x .flags .send ≡ true
     unfolding cases
     sends-in-check e = in-phase check e (λ v r s. v .send) refl
 
-    -- and in copy
+    -- a thread in copy sends
     pub sends-in-copy : phaseOf (T x .phase) ≡ copy → T x .flags .send ≡ true
     unfolding cases
     sends-in-copy e = in-phase copy e (λ v r s. v .send) refl
 
-    -- in look it does not send
+    -- a thread in look does not send
     pub quiet-in-look : phaseOf (T x .phase) ≡ look → T x .flags .send ≡ false
     unfolding cases
     quiet-in-look e = not-true _ (in-phase look e (λ v r s. not (v .send)) refl)
 
-    -- nor in idle
+    -- a thread in idle does not send
     pub quiet-in-idle : phaseOf (T x .phase) ≡ idle → T x .flags .send ≡ false
     unfolding cases
     quiet-in-idle e = not-true _ (in-phase idle e (λ v r s. not (v .send)) refl)
 
-    -- in lock its target is another thread of the table
+    -- the target of a thread in lock is another thread of the table
     pub target-in-lock : phaseOf (T x .phase) ≡ lock → Other n x (T x .op .send .target)
     target-in-lock e = target-other (F .own x xn) (sends-in-lock e)
 
-    -- in check
+    -- the target of a thread in check is another thread of the table
     pub target-in-check : phaseOf (T x .phase) ≡ check → Other n x (T x .op .send .target)
     target-in-check e = target-other (F .own x xn) (sends-in-check e)
 
-    -- in copy
+    -- the target of a thread in copy is another thread of the table
     pub target-in-copy : phaseOf (T x .phase) ≡ copy → Other n x (T x .op .send .target)
     target-in-copy e = target-other (F .own x xn) (sends-in-copy e)
 
-    -- and in release, where it holds the lock of its target
+    -- the target of a thread in release, whose lock it holds, is another thread of the table
     pub target-in-release : phaseOf (T x .phase) ≡ release → Other n x (T x .op .send .target)
     unfolding isOneOf
     target-in-release e = holds-other x xn release e (target-below (F .own x xn) (rw (number x xn release e) refl))
 
-    -- in wake that of the sender being woken
+    -- the sender that is woken in wake is another thread of the table
     pub woken-in-wake : phaseOf (T x .phase) ≡ wake → Other n x (T x .waking)
     unfolding isOneOf
     woken-in-wake e = holds-other x xn wake e (woken-below (F .own x xn) (rw (number x xn wake e) refl))
 
-    -- and in unlock
+    -- the sender that is woken in unlock is another thread of the table
     pub woken-in-unlock : phaseOf (T x .phase) ≡ unlock → Other n x (T x .waking)
     unfolding isOneOf
     woken-in-unlock e = holds-other x xn unlock e (woken-below (F .own x xn) (rw (number x xn unlock e) refl))

@@ -83,7 +83,7 @@ unfoldable opened : ℕ
 unfolding numbersInRange ipcWithRunning bareUnlessDone notWithItself sendAndMarkWithIpc pollWithSend receivingWithPart ipcWithoutSend idleWithoutFlags releaseHasTarget receiversSendClear sendersSendSet inPhase isOneOf flagsFit outcomeFits operationFits phaseFits queueFits
 opened = 0
 
--- the clauses, grouped
+-- the clauses of `WellFormed` on one thread give the groups
 pub own-grouped : (n x : ℕ) (h : Thread) → OwnClauses n x h → Own n x h
 unfolding opened
 own-grouped n x h c =
@@ -99,7 +99,7 @@ own-grouped n x h c =
       items = c .items;
     }
 
--- the groups, as clauses
+-- the groups give the clauses
 pub own-ungrouped : (n x : ℕ) (h : Thread) → Own n x h → OwnClauses n x h
 unfolding opened
 own-ungrouped n x h w =

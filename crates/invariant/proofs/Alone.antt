@@ -48,7 +48,7 @@ pub copy-fits : (n x : ℕ) (part : SendPart) (copied waking : ℕ) → copied �
 unfolding phaseFits cases
 copy-fits n x part copied waking l = rw (le-leb copied (part .count) l) refl
 
--- in wake and in unlock the sender being woken
+-- in wake the sender being woken
 pub wake-fits : (n x : ℕ) (part : SendPart) (copied waking : ℕ) → waking < n → phaseFits n x (phaseNumber wake) part copied waking ≡ true
 unfolding phaseFits cases
 wake-fits n x part copied waking l = rw (lt-ltb waking n l) refl

@@ -8,7 +8,7 @@ use borrow.Author.Tests.{not-true}
 use Rattle.model.specs.declared.Thread.{Thread}
 use Rattle.model.specs.Lists.{update, occurs}
 use Rattle.model.specs.Shared.{done, nobody, codes, running, sameCode, hasReceive, receiveTime}
-use Rattle.model.specs.Threads.{check, copy, look, phaseOf, noFlags, senders, departed, ready, idle, release}
+use Rattle.model.specs.Threads.{check, copy, look, phaseOf, noFlags, senders, departed, ready, idle, release, lockHeld}
 use Rattle.model.specs.WellFormed.{isCode, sendsTo}
 use Rattle.model.specs.Step.{abortSend, finishCall, finishSend, abortReceive, received, ownAfter, otherAfter}
 use Rattle.model.proofs.Laws.{same?}
@@ -145,62 +145,55 @@ module _ {n : ℕ} {T : ℕ → Thread} (F : Formed n T) (x : ℕ) (xn : x < n) 
     receiver-silent : _≡_ {A = ℕ → Bool} (λ u. false) (sendsTo (T target))
     receiver-silent = sym (silent (T target) (ready-read (T target) x (receiver-ready F x xn p) .notSending))
 
-    -- with a receive part
-    pub finish-call-keeps : hasReceive (h .op .receive) ≡ true → Formed n (afterAction finishCall T x)
-    unfolding ownAfter otherAfter received departed readings cases
-    finish-call-keeps receives =
-        let w : Own n x h = F .own x xn in
-        formed-changed F x target (ownAfter finishCall h) (otherAfter finishCall x h (T target))
+    -- x becomes f, which still holds its target's lock and neither sends nor copies
+    delivered-keeps : (f : Thread) → Own n x f → f .owner ≡ h .owner → lockHeld f ≡ target → ((u : ℕ) → sendsTo f u ≡ false) → senders f ≡ senders h → copiesTo f ≡ nobody
+        → Formed n (update (update T target (received x h (T target))) x f)
+    unfolding received departed readings
+    delivered-keeps f own owner held quiet queue still =
+        formed-changed F x target f (received x h (T target))
         (record {
-          owner = kept refl refl;
-          held = kept refl (sym (lock-held-in h copy p));
+          owner = kept refl owner;
+          held = kept refl (held ∙ sym (lock-held-in h copy p));
           sends = here receiver-silent;
-          queue = there (to sends .apart) refl;
+          queue = there (to sends .apart) queue;
           copies = here refl;
           ready = both;
         })
         (record {
           other = own-received;
-          own = record {
-            flags = in-phase-if F x xn copy p (λ v r s. r) (λ v r s. fitsIn release (record { ipc = v .ipc; send = false; receiving = v .receiving; poll = false; mark = v .mark }) r s) refl receives;
-            outcome = w .outcome;
-            operation = operation-left n x (h .flags .ipc) (h .op) (h .left) _ (λ i e. left-from-code (receiveTime (h .op .receive))) (w .operation);
-            phase = release-fits n x (h .op .send) (h .copied) (h .waking) (to sends);
-            queue = w .queue;
-            items = w .items;
-          };
-          queues = left-queues sends _ (λ u. refl);
+          own = own;
+          queues = left-queues sends _ quiet;
           owners = F .owners;
           chains = F .chains;
-          copies = copies-over _ _;
+          copies = rw still (copies-over _ _);
         })
+
+    -- with a receive part
+    pub finish-call-keeps : hasReceive (h .op .receive) ≡ true → Formed n (afterAction finishCall T x)
+    unfolding ownAfter otherAfter readings cases
+    finish-call-keeps receives = let w : Own n x h = F .own x xn in
+        delivered-keeps (ownAfter finishCall h)
+        (record {
+          flags = in-phase-if F x xn copy p (λ v r s. r) (λ v r s. fitsIn release (record { ipc = v .ipc; send = false; receiving = v .receiving; poll = false; mark = v .mark }) r s) refl receives;
+          outcome = w .outcome;
+          operation = operation-left n x (h .flags .ipc) (h .op) (h .left) _ (λ i e. left-from-code (receiveTime (h .op .receive))) (w .operation);
+          phase = release-fits n x (h .op .send) (h .copied) (h .waking) (to sends);
+          queue = w .queue;
+          items = w .items;
+        })
+        refl refl (λ u. refl) refl refl
 
     -- without one
     pub finish-send-keeps : Formed n (afterAction finishSend T x)
-    unfolding ownAfter otherAfter received departed readings cases isCode
-    finish-send-keeps =
-        let w : Own n x h = F .own x xn in
-        formed-changed F x target (ownAfter finishSend h) (otherAfter finishSend x h (T target))
+    unfolding ownAfter otherAfter readings cases isCode
+    finish-send-keeps = let w : Own n x h = F .own x xn in
+        delivered-keeps (ownAfter finishSend h)
         (record {
-          owner = kept refl refl;
-          held = kept refl (sym (lock-held-in h copy p));
-          sends = here receiver-silent;
-          queue = there (to sends .apart) refl;
-          copies = here refl;
-          ready = both;
+          flags = in-phase F x xn copy p (λ v. fitsIn release noFlags) refl;
+          outcome = bare-fits n done refl refl;
+          operation = operation-over n x (h .op) (h .left);
+          phase = release-fits n x (h .op .send) (h .copied) (h .waking) (to sends);
+          queue = w .queue;
+          items = w .items;
         })
-        (record {
-          other = own-received;
-          own = record {
-            flags = in-phase F x xn copy p (λ v. fitsIn release noFlags) refl;
-            outcome = bare-fits n done refl refl;
-            operation = operation-over n x (h .op) (h .left);
-            phase = release-fits n x (h .op .send) (h .copied) (h .waking) (to sends);
-            queue = w .queue;
-            items = w .items;
-          };
-          queues = left-queues sends _ (λ u. refl);
-          owners = F .owners;
-          chains = F .chains;
-          copies = copies-over _ _;
-        })
+        refl refl (λ u. refl) refl refl

@@ -115,7 +115,7 @@ module _ {n : ℕ} {T : ℕ → Thread} (F : Formed n T) (x : ℕ) (xn : x < n) 
         copies = F .copies;
       })
 
-  -- ---- x frees the lock of r, which it holds in phase p, and goes to a phase q that holds none
+  -- ---- x frees the lock of r, which it holds, and goes to a phase q in which it holds none
   freed-keeps : (r : ℕ) → Other n x r → lockHeld h ≡ r → copiesTo h ≡ nobody → (q : Phase) → FlagsFit (entering q h)
       → lockHeld (entering q h) ≡ nobody → copiesTo (entering q h) ≡ nobody → phaseFits n x (phaseNumber q) (h .op .send) (h .copied) (h .waking) ≡ true
       → Formed n (update (update T r (withOwner nobody (T r))) x (entering q h))

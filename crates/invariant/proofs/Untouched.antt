@@ -65,7 +65,8 @@ accepted-beyond (step x) s z e y l = step-beyond x (s .table) (z .threads) (foun
 accepted-beyond (cancel x) s z e y l = cancel-beyond x (s .table) (accepted-cancel x s e .below) y l
 accepted-beyond tick s z e y l = below-beyond ticked (s .table) (s .table .n) y l
 
--- no call changes a thread that is not in use
+-- no call changes a thread that is not in use; the arrays' lengths are asked because `Formed`, which tells that a step's other thread is in
+-- the table, has them
 pub next-beyond : (c : Call) (s : State) → Shaped (s .table) → (y : ℕ) → s .table .n ≤ y → at (next c s .table) y ≡ at (s .table) y
 next-beyond c s z y l = next-cases c s (λ after. at (after .table) y ≡ at (s .table) y) (λ e. accepted-beyond c s z e y l) refl
 

@@ -31,17 +31,17 @@ module _ (n : ℕ) (p : Machine) where
   queued-tested : (s r : ℕ) → QueuedAt p s r → sendsNowTo (p s .run) r ≡ true
   queued-tested s r q = rw (q .runs) (eq-eqb (q .operation .send .target) r (q .target))
 
-  -- no acceptable sender is queued
+  -- where no acceptable sender is queued, the test holds
   none-tested : (r : ℕ) → NoneAcceptable n p r → noneAcceptable n p r ≡ true
   unfolding noneAcceptable
   none-tested r h = all-below-made n _ (λ s sn. implies-made (sendsNowTo (p s .run) r) (not (acceptsIn (p r .run) s)) (λ e. rw (h s sn (queued-read p s r (p s .run) refl e)) refl))
 
-  -- and back
+  -- where the test holds, no acceptable sender is queued
   none-read : (r : ℕ) → noneAcceptable n p r ≡ true → NoneAcceptable n p r
   unfolding noneAcceptable
   none-read r e s sn q = not-true (acceptsIn (p r .run) s) (implies-read _ _ (all-below-read n _ e s sn) (queued-tested s r q))
 
-  -- an abort
+  -- an abort that is allowed passes its test
   abort-tested : (x : ℕ) (c : ℤ) → CanAbort n p x c → abortTest n p x c (p x .run) ≡ true
   unfolding abortTest
   abort-tested x c (CanAbort.cancelledSending o r m) = rw (r, m) refl
@@ -49,7 +49,7 @@ module _ (n : ℕ) (p : Machine) where
   abort-tested x c (CanAbort.cancelledReceiving w r m) = rw (r, m) refl
   abort-tested x c (CanAbort.lateReceiving w r l k) = rw (r, l, none-tested x k) refl
 
-  -- every event
+  -- an event that is allowed passes its test
   can-tested : (e : Event) → Can n e p → canTest n e p ≡ true
   unfolding canTest
   can-tested (begins x o) h = all-of-made _ (lt-ltb x n (h .0) and rw (h .1) refl and tt)
@@ -91,7 +91,7 @@ module _ (n : ℕ) (p : Machine) where
   pub can-same : (e : Event) → (Can n e p) ↔ (canTest n e p ≡ true)
   can-same e = (can-tested e, can-read e)
 
-  -- every entry
+  -- an entry that is allowed passes its test
   pub allowed-tested : (e : Entry) → Allowed n e p → allowedTest n e p ≡ true
   allowed-tested none h = refl
   allowed-tested (some e) h = can-tested e h

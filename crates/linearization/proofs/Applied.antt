@@ -40,7 +40,7 @@ module _ (n : ℕ) (one : 1 ≤ n) (few : n ≤ 32) (store : List ℕ) (fit : le
     abbrev pub before : List Entry
     before = reverse (take k entries)
 
-    -- its answer
+    -- what stands in its place, and that begin, cancel and tick are answered alike
     pub answered : AtCall (c .call) (said (c .answer)) here (played n before)
     answered = at-call k c i .follows .place
 
@@ -53,8 +53,8 @@ module _ (n : ℕ) (one : 1 ≤ n) (few : n ≤ 32) (store : List ℕ) (fit : le
     viewed = at-call k c i .follows .views
 
     -- an ending in its place has its begin
-    pub ending-begun : (x : ℕ) → x < n → EndsAt n x here before → (i : ℕ) × (latest x (here ∷ before) ≡ some i)
-    ending-begun = at-call k c i .follows .begun
+    pub ending-has-begun : (x : ℕ) → x < n → EndsAt n x here before → (i : ℕ) × (latest x (here ∷ before) ≡ some i)
+    ending-has-begun = at-call k c i .follows .begun
 
     -- and what it shows as ended has its ending by now
     pub ending-shown : (x : ℕ) → x < n → (i : ℕ) → latest x (here ∷ before) ≡ some i → view (c .after) x .outcome .code ≢ running → HasEnded n x i (here ∷ before)

@@ -1,4 +1,4 @@
--- What a replay computes holds of all calls from a new table. So a machine on which some replay fails is none of which demand 3 holds.
+-- What a replay computes holds of all calls from a new table. So where some replay fails, `linearizes` or `keeps-well-formed` does not hold.
 use mathlib.Core.Path.{_≡_}
 use mathlib.Core.Bool.{true}
 use mathlib.Core.List.{List, [], _∷_}

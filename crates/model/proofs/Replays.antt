@@ -1,5 +1,5 @@
 -- Concrete traces, replayed by computation: after every call both machines show the same, every event is allowed where it stands and answered
--- alike, and the last table is well-formed. That this holds of every trace is the linearization theorem; each of these traces tells a wrong machine from ours.
+-- alike, and the last table is well-formed. That it is so of all calls is `every-replay-agrees`; each of these tells a wrong machine from ours.
 use mathlib.Core.Path.{_≡_, refl}
 use mathlib.Core.Bool.{true}
 use mathlib.Core.List.{List, [], _∷_, _++_}

@@ -77,7 +77,7 @@ module _ (p : Machine) (s r : ℕ) (h : Parties p s r) where
   sender-ends n b = update-same _ s _ ∙ rw (h .sends, b) refl
 
 -- ---- each event
--- how an entry that is no begin of x leaves x: as it was, or with one of the four changes
+-- how an entry that is no begin of x leaves x: alike, or with one of four changes
 pub data Effect (n : ℕ) (p : Machine) (x : ℕ) (e : Entry) (q : AtomicThread) : Type 0 where
   kept : OnSides x e false false → Alike q (p x) → Effect n p x e q
   aborted : (c : ℤ) → OnSides x e false false → CanAbort n p x c → q ≡ ending (codeOnly c) [] (p x) → Effect n p x e q
@@ -125,21 +125,21 @@ module _ (n : ℕ) (p : Machine) (x : ℕ) where
       (λ e. aborted c (refl, refl) (rw e (l .1)) (rw (e, update-same) refl))
       (λ d. kept (refl, refl) (untouched y (ending (codeOnly c) [] (p y)) d))
 
-  -- what aborts runs
+  -- a thread that may be aborted runs
   abort-runs : (c : ℤ) → CanAbort n p x c → runs (p x .run) ≡ true
   abort-runs c (cancelledSending o e m) = rw e refl
   abort-runs c (lateSending o e t k) = rw e refl
   abort-runs c (cancelledReceiving w e m) = rw e refl
   abort-runs c (lateReceiving w e t k) = rw e refl
 
-  -- and then shows another code than running
+  -- and the code of an abort is not running
   pub abort-over : (c : ℤ) → CanAbort n p x c → sameCode running c ≡ false
   abort-over c (cancelledSending o e m) = refl
   abort-over c (lateSending o e t k) = refl
   abort-over c (cancelledReceiving w e m) = refl
   abort-over c (lateReceiving w e t k) = refl
 
-  -- a thread that runs nothing stays as it is until it begins
+  -- a thread that runs nothing stays alike until it begins
   pub idle-kept : (e : Entry) (q : AtomicThread) → Effect n p x e q → runs (p x .run) ≡ false → Alike q (p x)
   idle-kept e q (kept off a) i = a
   idle-kept e q (aborted c off g k) i = absurd (true≢false (sym (abort-runs c g) ∙ i))

@@ -35,24 +35,24 @@ runs-with-ipc false send o = refl
 abbrev pub CopiedBy : ℕ → List ℕ → Thread → Type 0
 CopiedBy n store h = copiesTo h < n → (j : ℕ) → j < h .copied → getD (wordsAt store (copiesTo h)) j 0 ≡ getD (h .op .send .words) j 0
 
--- those of every thread of the table
+-- so it is of every thread of the table
 abbrev pub Copied : ℕ → (ℕ → Thread) → List ℕ → Type 0
 Copied n T store = (x : ℕ) → x < n → CopiedBy n store (T x)
 
--- so it is of a thread that copies to nobody
+-- `CopiedBy` holds of a thread that copies to nobody
 pub copies-nowhere : (n : ℕ) (store : List ℕ) (h : Thread) → n ≤ nobody → copiesTo h ≡ nobody → CopiedBy n store h
 copies-nowhere n store h few e = rw e (λ l. absurd (omega arith))
 
--- of one that has copied nothing yet
+-- `CopiedBy` holds of a thread that has copied nothing yet
 pub copied-nothing : (n : ℕ) (store : List ℕ) (h : Thread) → h .copied ≡ 0 → CopiedBy n store h
 copied-nothing n store h e = rw e (λ l j k. absurd (omega arith))
 
--- of one whose receiver's words stay, whatever else changes in the store
+-- `CopiedBy` is kept where the receiver's words stay, whatever else changes in the store
 pub copied-kept : (n : ℕ) (store after : List ℕ) (h : Thread)
     → (copiesTo h < n → wordsAt after (copiesTo h) ≡ wordsAt store (copiesTo h)) → CopiedBy n store h → CopiedBy n after h
 copied-kept n store after h same before l j jk = ap (λ (words : List ℕ). getD words j 0) (same l) ∙ before l j jk
 
--- and of one that copies one word more
+-- `CopiedBy` is kept where the thread copies one word more
 pub copied-more : (n : ℕ) (store : List ℕ) (h : Thread) → length store ≡ 8 * n → h .copied < wordLimit → copiesTo h ≡ h .op .send .target → CopiedBy n store h
     → CopiedBy n (wordCopied h store) (withCopied (h .copied + 1) h)
 unfolding copiesTo

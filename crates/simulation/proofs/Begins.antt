@@ -61,7 +61,7 @@ module _ {n : ℕ} {p : Machine} {T : ℕ → Thread} {store : List ℕ} (S : Si
   beyond-leads far = alone-leads S x xn after zeroed-kept (some (begins x o)) may (ended (codeOnly noReceiver) h) (beginning n o (p x)) refl
       (rw far (ap (ending (codeOnly noReceiver) []) (S .like x xn))) (copies-nowhere n after (ended (codeOnly noReceiver) h) (below-nobody (S .formed)) calm)
 
-  -- else x begins alike in both machines, whatever its phase
+  -- else x begins alike in both machines, in whatever phase it enters
   begun-alike : (q : Phase) → targetBeyond n o ≡ false → beginning n o (p x) ≡ abstraction (begun o q h) (wordsAt after x)
   unfolding beginning begun begunFlags abstraction
   begun-alike q near = rw near refl

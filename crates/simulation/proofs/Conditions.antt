@@ -51,11 +51,11 @@ module _ {n : ℕ} {p : Machine} {T : ℕ → Thread} {store : List ℕ} (S : Si
     unfolding abstraction
     left-alike = ap (λ (q : AtomicThread). q .left) (S .like x xn)
 
-    -- something runs in it, or nothing
+    -- an operation runs in it where `ipc` is set
     pub runs-alike : runs (p x .run) ≡ T x .flags .ipc
     runs-alike = ap runs run-alike ∙ runs-with-ipc (T x .flags .ipc) (T x .flags .send) (T x .op)
 
-    -- nothing
+    -- where `ipc` is clear nothing runs
     pub rests-alike : T x .flags .ipc ≡ false → p x .run ≡ nothing
     unfolding runOf
     rests-alike i = run-alike ∙ rw i refl
