@@ -5,12 +5,13 @@ use mathlib.Core.Bool.{true, _&&_}
 use mathlib.Core.List.{[], _∷_}
 use Prim.Native.Nat.{ℕ, _≤_, _<_}
 use borrow.Author.Tests.{ltb-true, leb-true, eqb-false, not-true}
+use lib.Dec.{leb, ltb}
 use Rattle.model.specs.declared.Thread.{Thread}
 use Rattle.model.specs.Lists.{implies}
-use Rattle.model.specs.Shared.{wordLimit}
+use Rattle.model.specs.Shared.{wordLimit, isTimeCode}
 use Rattle.model.specs.Threads.{copy, release, wake, unlock}
 use Rattle.model.specs.WellFormed.{sendInRange}
-use Rattle.model.proofs.Laws.{and-left, and-right, implies-read, _and_, all-of-read}
+use Rattle.model.proofs.Laws.{and-left, and-right, implies-read, _and_, all-of-read, All}
 use Rattle.formed.proofs.Flags.{cases, isOneOf, told-any}
 use Rattle.formed.proofs.Own.{operationFits, phaseFits, queueFits, Own}
 
@@ -33,21 +34,20 @@ module _ {n x : ℕ} {h : Thread} (w : Own n x h) where
   pub sends-part : h .flags .send ≡ true → h .op .send .present ≡ true
   sends-part e = and-right (h .flags .ipc) (h .op .send .present) (sends-with e)
 
+  -- the numbers of its send part are in range
+  send-range : h .flags .send ≡ true → All (ltb (h .op .send .target) n ∷ leb (h .op .send .count) wordLimit ∷ isTimeCode (h .op .send .time) ∷ [])
+  unfolding operationFits sendInRange
+  send-range e = all-of-read _ (implies-read _ _ (implies-read _ _ (all-of-read _ (w .operation) .0) (sends-runs e)) (sends-part e))
+
   -- its target is another thread of the table
   pub target-other : h .flags .send ≡ true → Other n x (h .op .send .target)
-  unfolding operationFits sendInRange
-  target-other e =
-      let (inRange, (received, (left, (target, more)))) = all-of-read _ (w .operation) in
-      let (below, more) = all-of-read _ (implies-read _ _ (implies-read _ _ inRange (sends-runs e)) (sends-part e)) in
-      record { below = ltb-true (h .op .send .target) n below; apart = eqb-false (h .op .send .target) x (not-true _ (implies-read _ _ target (sends-with e))) }
+  unfolding operationFits
+  target-other e = let (inRange, (received, (left, (target, more)))) = all-of-read _ (w .operation) in
+      record { below = ltb-true (h .op .send .target) n (send-range e .0); apart = eqb-false (h .op .send .target) x (not-true _ (implies-read _ _ target (sends-with e))) }
 
   -- its message is short enough
   pub count-small : h .flags .send ≡ true → h .op .send .count ≤ wordLimit
-  unfolding operationFits sendInRange
-  count-small e =
-      let (inRange, more) = all-of-read _ (w .operation) in
-      let (below, (count, more)) = all-of-read _ (implies-read _ _ (implies-read _ _ inRange (sends-runs e)) (sends-part e)) in
-      leb-true (h .op .send .count) wordLimit count
+  count-small e = leb-true (h .op .send .count) wordLimit (send-range e .1 .0)
 
   -- a thread in copy sends
   pub copy-sends : isOneOf (copy ∷ []) (h .phase) ≡ true → h .flags .send ≡ true

@@ -1,16 +1,17 @@
 -- What well-formed threads tell of one another: who holds a lock, who copies to whom, who waits in a queue.
 use mathlib.Core.Path.{_≡_, refl, sym, ap, _∙_}
 use mathlib.Core.Logic.{_≢_}
-use mathlib.Core.Bool.{not, true, false, cond, _&&_}
+use mathlib.Core.Bool.{not, true, false, cond, _&&_, Bool}
 use mathlib.Core.List.{[], _∷_}
 use Prim.Native.Nat.{ℕ, _+_, _≤_, _<_}
 use native.Mathlib.Omega.{arith}
 use lib.Dec.{eqb, ltb}
 use borrow.Author.Tests.{not-true, eq-eqb, ne-eqb, ltb-true, lt-ltb, le-ltb}
+use Rattle.formed.proofs.Copies.{Copies, copies-elsewhere}
 use Rattle.model.specs.declared.Thread.{Thread}
-use Rattle.model.specs.Lists.{bit, occurs, implies}
+use Rattle.model.specs.Lists.{bit, occurs, implies, update}
 use Rattle.model.specs.Shared.{nobody, hasReceive}
-use Rattle.model.specs.Threads.{idle, look, Phase, lock, check, copy, release, wake, unlock, phaseOf, phaseNumber, senders, lockHeldIn}
+use Rattle.model.specs.Threads.{idle, look, Phase, lock, check, copy, release, wake, unlock, phaseOf, phaseNumber, senders, lockHeldIn, ready}
 use Rattle.model.specs.WellFormed.{sendsTo}
 use Rattle.model.proofs.Laws.{by, same?, and-left, and-right, few-enough}
 use Rattle.laws.proofs.Lists.{bit-small}
@@ -19,7 +20,7 @@ use Rattle.laws.proofs.Queues.{sends-to, sends-nowhere, senders-length}
 use Rattle.formed.proofs.Flags.{cases, Implied, isOneOf, told, phase-small, FlagTest, told-if}
 use Rattle.formed.proofs.Facts.{Other, target-other, queue-small, target-below, woken-below}
 use Rattle.formed.proofs.Locks.{not-own-owner}
-use Rattle.formed.proofs.Formed.{Formed, copiesTo}
+use Rattle.formed.proofs.Formed.{Formed, copiesTo, of}
 
 module _ {n : ℕ} {T : ℕ → Thread} (F : Formed n T) where
   -- 255 is no thread of the table
@@ -125,6 +126,10 @@ module _ {n : ℕ} {T : ℕ → Thread} (F : Formed n T) where
   -- to a thread whose lock is free nobody copies
   pub no-copier : (r : ℕ) → r < n → T r .owner ≡ nobody → (y : ℕ) → y < n → copiesTo (T y) ≢ r
   no-copier r rn free y yn e = let z : nobody ≡ y = sym free ∙ copier r y rn yn e in let l = below-nobody in omega arith
+
+  -- so a thread whose lock is free may be ready or not
+  pub copies-unowned : (r : ℕ) → r < n → T r .owner ≡ nobody → (now : ℕ → Bool) → Copies n (of copiesTo T) (update (of ready T) r now)
+  copies-unowned r rn free now = copies-elsewhere n (of copiesTo T) (of ready T) r now (no-copier r rn free) (F .copies)
 
   -- ---- queues
   -- who stands in x's queue sends to x

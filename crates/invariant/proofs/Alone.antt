@@ -1,11 +1,12 @@
 -- Changes of one thread that keep it well-formed by itself.
-use mathlib.Core.Path.{_≡_, refl}
-use mathlib.Core.Bool.{Bool, true, false, not, or-true}
+use mathlib.Core.Path.{_≡_, refl, sym, _∙_}
+use mathlib.Core.Bool.{Bool, true, false, not, or-true, true≢false}
 use Prim.Native.Nat.{ℕ, _+_, _-_, _≤_, _<_}
 use native.Mathlib.Omega.{arith}
 use lib.Dec.{eqb}
 use lib.IntN.{ℤ}
 use borrow.Author.Tests.{le-leb, lt-ltb, ne-eqb}
+use mathlib.Core.List.{[], _∷_}
 use Rattle.model.specs.declared.SendPart.{SendPart}
 use Rattle.model.specs.declared.Operation.{Operation}
 use Rattle.model.specs.declared.Outcome.{Outcome}
@@ -16,7 +17,7 @@ use Rattle.model.specs.Threads.{Phase, noFlags, entering, withOwner, polled, en
 use Rattle.model.specs.WellFormed.{isCode, nobodyOrBelow}
 use Rattle.model.proofs.Laws.{implies-read, implies-made, _and_, all-of-read, all-of-made}
 use Rattle.laws.proofs.Queues.{departed-length, joined-length}
-use Rattle.formed.proofs.Flags.{cases, flagsFit, FlagsFit, told-any, told-any-if}
+use Rattle.formed.proofs.Flags.{cases, flagsFit, FlagsFit, told-any, told-any-if, isOneOf}
 use Rattle.formed.proofs.Own.{outcomeFits, operationFits, phaseFits, queueFits, Own}
 use Rattle.formed.proofs.Facts.{Other, queue-small}
 
@@ -48,15 +49,16 @@ pub copy-fits : (n x : ℕ) (part : SendPart) (copied waking : ℕ) → copied �
 unfolding phaseFits cases
 copy-fits n x part copied waking l = rw (le-leb copied (part .count) l) refl
 
--- in wake the sender being woken
-pub wake-fits : (n x : ℕ) (part : SendPart) (copied waking : ℕ) → waking < n → phaseFits n x (phaseNumber wake) part copied waking ≡ true
-unfolding phaseFits cases
-wake-fits n x part copied waking l = rw (lt-ltb waking n l) refl
-
--- and in unlock
-pub unlock-fits : (n x : ℕ) (part : SendPart) (copied waking : ℕ) → waking < n → phaseFits n x (phaseNumber unlock) part copied waking ≡ true
-unfolding phaseFits cases
-unlock-fits n x part copied waking l = rw (lt-ltb waking n l) refl
+-- in wake and in unlock, which are neither release nor copy, the sender being woken
+pub woken-fits : (n x k : ℕ) (part : SendPart) (copied waking : ℕ) → isOneOf (release ∷ []) k ≡ false → isOneOf (copy ∷ []) k ≡ false → waking < n
+    → phaseFits n x k part copied waking ≡ true
+unfolding phaseFits
+woken-fits n x k part copied waking a b l = all-of-made _ (
+    implies-made (isOneOf (release ∷ []) k) _ (λ e. absurd (true≢false (sym e ∙ a)))
+    and implies-made (isOneOf (release ∷ []) k) _ (λ e. absurd (true≢false (sym e ∙ a)))
+    and implies-made (isOneOf (copy ∷ []) k) _ (λ e. absurd (true≢false (sym e ∙ b)))
+    and implies-made (isOneOf (wake ∷ unlock ∷ []) k) _ (λ e. lt-ltb waking n l)
+    and tt)
 
 -- an outcome without a message, other than running
 pub bare-fits : (n : ℕ) (code : ℤ) → isCode codes code ≡ true → sameCode running code ≡ false → outcomeFits n false (codeOnly code) ≡ true

@@ -25,9 +25,8 @@ use Rattle.formed.proofs.Flags.{cases, flagsFit, told-any-if, fitsIn}
 use Rattle.formed.proofs.Own.{outcomeFits, operationFits, phaseFits, Own}
 use Rattle.invariant.proofs.Alone.{operation-left, bare-fits, own-joined, own-ended}
 use Rattle.formed.proofs.Queues.{queues-join}
-use Rattle.formed.proofs.Copies.{copies-elsewhere}
-use Rattle.formed.proofs.Formed.{owner, copiesTo, readings, of, Formed}
-use Rattle.formed.proofs.Neighbours.{quiet-in-idle, copies-in, queue-room, no-copier, in-phase}
+use Rattle.formed.proofs.Formed.{owner, readings, of, Formed}
+use Rattle.formed.proofs.Neighbours.{quiet-in-idle, copies-in, queue-room, in-phase, copies-unowned}
 use Rattle.invariant.proofs.Changed.{kept, here, there, formed-changed, formed-one}
 
 -- what is asked of an operation that thread x begins in a table of n threads
@@ -134,7 +133,7 @@ module _ {n : ℕ} {T : ℕ → Thread} (F : Formed n T) (x : ℕ) (xn : x < n) 
           queues = F .queues;
           owners = F .owners;
           chains = F .chains;
-          copies = copies-elsewhere n (of copiesTo T) (of ready T) x _ (no-copier F x xn unowned) (F .copies);
+          copies = copies-unowned F x xn unowned _;
         })
 
     -- to a target that does not exist
@@ -149,7 +148,7 @@ module _ {n : ℕ} {T : ℕ → Thread} (F : Formed n T) (x : ℕ) (xn : x < n) 
           queues = F .queues;
           owners = F .owners;
           chains = F .chains;
-          copies = copies-elsewhere n (of copiesTo T) (of ready T) x _ (no-copier F x xn unowned) (F .copies);
+          copies = copies-unowned F x xn unowned _;
         })
 
   -- ---- cancel of a running operation
@@ -173,7 +172,7 @@ module _ {n : ℕ} {T : ℕ → Thread} (F : Formed n T) (x : ℕ) (xn : x < n) 
         queues = F .queues;
         owners = F .owners;
         chains = F .chains;
-        copies = copies-elsewhere n (of copiesTo T) (of ready T) x _ (no-copier F x xn unowned) (F .copies);
+        copies = copies-unowned F x xn unowned _;
       })
 
 -- ---- tick

@@ -25,7 +25,7 @@ use Rattle.invariant.proofs.Alone.{operation-over, operation-left, rele
 use Rattle.formed.proofs.Queues.{Queues, queues-leave}
 use Rattle.formed.proofs.Copies.{Copies, copies-end, copies-elsewhere}
 use Rattle.formed.proofs.Formed.{owner, copiesTo, readings, of, Formed}
-use Rattle.formed.proofs.Neighbours.{quiet-in-look, below-nobody, copies-in, sends-in-check, sends-in-copy, queued-at-target, no-copier, in-phase, in-phase-if}
+use Rattle.formed.proofs.Neighbours.{quiet-in-look, below-nobody, copies-in, sends-in-check, sends-in-copy, queued-at-target, no-copier, in-phase, in-phase-if, copies-unowned}
 use Rattle.formed.proofs.Receivers.{receiver-ready, copies-alone}
 use Rattle.invariant.proofs.Changed.{kept, here, there, both, formed-changed}
 
@@ -114,7 +114,7 @@ module _ {n : ℕ} {T : ℕ → Thread} (F : Formed n T) (x : ℕ) (xn : x < n) 
         queues = F .queues;
         owners = F .owners;
         chains = F .chains;
-        copies = copies-elsewhere n (of copiesTo T) (of ready T) x _ (no-copier F x xn unowned) (F .copies);
+        copies = copies-unowned F x xn unowned _;
       })
 
   -- ---- copy: its message is delivered, with a receive part or without

@@ -15,7 +15,7 @@ use Rattle.laws.proofs.Queues.{sends-nowhere}
 use Rattle.formed.proofs.Flags.{cases, FlagsFit, fitsIn}
 use Rattle.formed.proofs.Own.{phaseFits, Own}
 use Rattle.formed.proofs.Facts.{Other}
-use Rattle.invariant.proofs.Alone.{owner-below, wake-fits, own-owner, own-entering}
+use Rattle.invariant.proofs.Alone.{owner-below, woken-fits, own-owner, own-entering}
 use Rattle.formed.proofs.Locks.{Owners, Chains, owners-take, owners-free, chains-take, chains-free}
 use Rattle.formed.proofs.Formed.{owner, copiesTo, readings, of, Formed}
 use Rattle.formed.proofs.Neighbours.{target-in-lock, quiet-in-look, below-nobody, copies-in, target-in-release, woken-in-unlock, queued-sends, in-phase, in-phase-if}
@@ -105,7 +105,7 @@ module _ {n : ℕ} {T : ℕ → Thread} (F : Formed n T) (x : ℕ) (xn : x < n) 
           flags = in-phase F x xn look p (fitsIn wake) refl;
           outcome = w .outcome;
           operation = w .operation;
-          phase = wake-fits n x (h .op .send) (h .copied) s (r .below);
+          phase = woken-fits n x (phaseNumber wake) (h .op .send) (h .copied) s refl refl (r .below);
           queue = w .queue;
           items = w .items;
         };

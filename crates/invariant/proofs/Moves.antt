@@ -4,13 +4,13 @@ use mathlib.Core.Bool.{true, false, not}
 use Prim.Native.Nat.{ℕ, _+_, _<_}
 use native.Mathlib.Omega.{arith}
 use Rattle.model.specs.declared.Thread.{Thread}
-use Rattle.model.specs.Threads.{idle, lock, check, copy, release, sleep, look, wake, unlock, phaseOf, ready}
+use Rattle.model.specs.Threads.{idle, lock, check, copy, release, sleep, look, wake, unlock, phaseOf, ready, phaseNumber}
 use Rattle.model.specs.Step.{startCopy, toRelease, copyWord, retry, toIdle, clearPoll, ownAfter, otherAfter}
 use Rattle.laws.proofs.Phases.{lock-held-in}
 use Rattle.laws.proofs.Decided.{otherOf, afterAction}
 use Rattle.formed.proofs.Flags.{cases, fitsIn}
 use Rattle.formed.proofs.Own.{phaseFits, Own}
-use Rattle.invariant.proofs.Alone.{release-fits, copy-fits, unlock-fits, own-unpolled, own-entering}
+use Rattle.invariant.proofs.Alone.{release-fits, copy-fits, woken-fits, own-unpolled, own-entering}
 use Rattle.formed.proofs.Copies.{copies-start}
 use Rattle.formed.proofs.Formed.{owner, copiesTo, readings, of, Formed}
 use Rattle.formed.proofs.Neighbours.{target-in-check, number, copies-in, woken-in-wake, in-phase, in-phase-if}
@@ -162,7 +162,7 @@ module _ {n : ℕ} {T : ℕ → Thread} (F : Formed n T) (x : ℕ) (xn : x < n) 
       (record {
         other = λ rn. own-unpolled (F .own (h .waking) rn);
         own = own-entering (F .own x xn) unlock (in-phase F x xn wake p (fitsIn unlock) refl)
-            (unlock-fits n x (h .op .send) (h .copied) (h .waking) (woken-in-wake F x xn p .below));
+            (woken-fits n x (phaseNumber unlock) (h .op .send) (h .copied) (h .waking) refl refl (woken-in-wake F x xn p .below));
         queues = F .queues;
         owners = F .owners;
         chains = F .chains;
