@@ -1,0 +1,216 @@
+// Functions on one thread: each returns what a definition of the model says.
+ghost use mathlib.Core.Path.{_≡_};
+ghost use Rattle.model.specs.Shared.{isFailure, codeOnly, tickCount, fall, hasReceive, receiveTime, accepts};
+ghost use Rattle.model.specs.Threads.{noFlags, ended, marked, withoutReceive, lockFree, ready};
+ghost use Rattle.model.specs.Calls.{ticked};
+use model::Flags;
+use model::Operation;
+use model::Outcome;
+use model::Receive;
+use model::Thread;
+
+// The codes of document 01; every failure is below zero.
+pub const DONE: i32 = 0;
+
+pub const RUNNING: i32 = 1;
+
+pub const NEVER_BEGUN: i32 = 2;
+
+pub const NO_RECEIVER: i32 = -2;
+
+pub const RECEIVE_TIME_OVER: i32 = -3;
+
+pub const SEND_TIME_OVER: i32 = -4;
+
+pub const RECEIVE_CANCELLED: i32 = -5;
+
+pub const SEND_CANCELLED: i32 = -6;
+
+// Source 255 means none; a lock's owner 255 is none too.
+pub const NOBODY: u8 = 255;
+
+// left of a thread whose time never runs out.
+pub const NEVER: u16 = 65535;
+
+// The tick counts of the time codes 0 to 15.
+const TICK_COUNTS: [u16; 16] = [
+    0,
+    1,
+    2,
+    5,
+    10,
+    20,
+    50,
+    100,
+    200,
+    500,
+    1000,
+    2000,
+    5000,
+    10000,
+    20000,
+    NEVER,
+];
+
+// A code that stands for a failure.
+pub fn is_failure(code: i32) -> bool
+    ensures { λ r. ⌜ r ≡ isFailure code ⌝ }
+{
+    code < 0
+}
+
+// An outcome that is not a completed receive: its code, source 255 and count 0.
+pub fn code_only(code: i32) -> Outcome
+    ensures { λ r. ⌜ r ≡ codeOnly code ⌝ }
+{
+    Outcome {
+        code: code,
+        source: NOBODY,
+        count: 0,
+    }
+}
+
+// The ticks that a time code stands for.
+pub fn tick_count(code: u8) -> u16
+    ensures { λ r. ⌜ r ≡ tickCount code ⌝ }
+{
+    if 15 < code {
+        return 0;
+    }
+    let i = code as usize;
+    TICK_COUNTS[i]
+}
+
+// left after a tick.
+pub fn fall_by_one(left: u16) -> u16
+    ensures { λ r. ⌜ r ≡ fall left ⌝ }
+{
+    if left == NEVER {
+        return left;
+    }
+    if left == 0 {
+        return left;
+    }
+    left - 1
+}
+
+// A receive part is there.
+pub fn has_receive(receive: Receive) -> bool
+    ensures { λ r. ⌜ r ≡ hasReceive receive ⌝ }
+{
+    match receive {
+        Receive::Absent => false,
+        Receive::Open(_) => true,
+        Receive::Closed(_) => true,
+    }
+}
+
+// The time code of a receive part.
+pub fn receive_time(receive: Receive) -> u8
+    ensures { λ r. ⌜ r ≡ receiveTime receive ⌝ }
+{
+    match receive {
+        Receive::Absent => 0,
+        Receive::Open(w) => w.time,
+        Receive::Closed(w) => w.time,
+    }
+}
+
+// A receive part that is open, or closed on s.
+pub fn accepts_from(receive: Receive, s: u8) -> bool
+    ensures { λ r. ⌜ r ≡ accepts receive s ⌝ }
+{
+    match receive {
+        Receive::Absent => false,
+        Receive::Open(_) => true,
+        Receive::Closed(w) => w.partner == s,
+    }
+}
+
+// Document 01's "ready" for s.
+pub fn is_ready(h: Thread, s: u8) -> bool
+    ensures { λ r. ⌜ r ≡ ready h s ⌝ }
+{
+    let flags = h.flags;
+    if !flags.ipc {
+        return false;
+    }
+    if !flags.receiving {
+        return false;
+    }
+    if flags.send {
+        return false;
+    }
+    if flags.mark {
+        return false;
+    }
+    let op = h.op;
+    let receive = op.receive;
+    accepts_from(receive, s)
+}
+
+// Nobody owns the thread's lock.
+pub fn lock_is_free(h: Thread) -> bool
+    ensures { λ r. ⌜ r ≡ lockFree h ⌝ }
+{
+    h.owner == NOBODY
+}
+
+// No flag.
+pub fn no_flags() -> Flags
+    ensures { λ r. ⌜ r ≡ noFlags ⌝ }
+{
+    Flags {
+        ipc: false,
+        send: false,
+        receiving: false,
+        poll: false,
+        mark: false,
+    }
+}
+
+// An ending: all flags clear, and the outcome.
+pub fn end_with(h: Thread, outcome: Outcome) -> Thread
+    ensures { λ r. ⌜ r ≡ ended outcome h ⌝ }
+{
+    let mut next = h;
+    next.flags = no_flags();
+    next.outcome = outcome;
+    next
+}
+
+// The receive part dropped.
+pub fn drop_receive(h: Thread) -> Thread
+    ensures { λ r. ⌜ r ≡ withoutReceive h ⌝ }
+{
+    let op = h.op;
+    let send = op.send;
+    let bare = Operation {
+        send: send,
+        receive: Receive::Absent,
+    };
+    let mut next = h;
+    next.op = bare;
+    next
+}
+
+// The mark set.
+pub fn set_mark(h: Thread) -> Thread
+    ensures { λ r. ⌜ r ≡ marked h ⌝ }
+{
+    let mut next = h;
+    next.flags.mark = true;
+    next
+}
+
+// A tick of one thread.
+pub fn tick_thread(h: Thread) -> Thread
+    ensures { λ r. ⌜ r ≡ ticked h ⌝ }
+{
+    if !h.flags.ipc {
+        return h;
+    }
+    let mut next = h;
+    next.left = fall_by_one(h.left);
+    next
+}
