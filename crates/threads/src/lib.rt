@@ -179,6 +179,14 @@ pub fn end_with(h: Thread, outcome: Outcome) -> Thread
     next
 }
 
+// An ending that is not a completed receive: all flags clear, the code, source 255 and count 0.
+pub fn end_with_code(h: Thread, code: i32) -> Thread
+    ensures { λ r. ⌜ r ≡ ended (codeOnly code) h ⌝ }
+{
+    let outcome = code_only(code);
+    end_with(h, outcome)
+}
+
 // The receive part dropped.
 pub fn drop_receive(h: Thread) -> Thread
     ensures { λ r. ⌜ r ≡ withoutReceive h ⌝ }

@@ -1,0 +1,214 @@
+// The actions of a step: each takes the stepped thread and the other one, and returns both as the action leaves them.
+ghost use mathlib.Core.Path.{_≡_};
+ghost use Prim.Native.Nat.{ℕ, _<_, _≤_};
+ghost use lib.ListN.{length, getD, set};
+ghost use Rattle.model.specs.Answers.{Reply, said, replied};
+ghost use Rattle.model.specs.Lists.{occurs};
+ghost use Rattle.model.specs.Shared.{hasReceive};
+ghost use Rattle.model.specs.Threads.{Phase, phaseNumber, senders};
+ghost use Rattle.model.specs.Step.{stay, takeLock, abortSend, startCopy, toRelease, copyWord, finishCall, finishSend, freeTarget, retry, toIdle, abortReceive, takeSender, clearPoll, freeSender};
+ghost use Rattle.actions.specs.Acted.{Acted};
+use model::Answer;
+use model::Outcome;
+use model::Thread;
+
+// The phases by their numbers.
+pub const IDLE: u8 = 0;
+
+pub const LOCK: u8 = 1;
+
+pub const CHECK: u8 = 2;
+
+pub const COPY: u8 = 3;
+
+pub const RELEASE: u8 = 4;
+
+pub const SLEEP: u8 = 5;
+
+pub const LOOK: u8 = 6;
+
+pub const WAKE: u8 = 7;
+
+pub const UNLOCK: u8 = 8;
+
+// The answer of a step, and its two threads afterwards.
+pub struct Changed {
+    pub answer: Answer,
+    pub own: Thread,
+    pub other: Thread,
+}
+
+// Nothing changes.
+pub fn stay_with(answer: Answer, own: Thread, other: Thread) -> Changed
+    ensures { λ r. ⌜ ((x : ℕ) (a : Reply) → said answer ≡ replied a → Acted (stay a) x own other r) ⌝ }
+{
+    Changed {
+        answer: answer,
+        own: own,
+        other: other,
+    }
+}
+
+// Lock: take the target's lock, set poll, go to check.
+pub fn take_lock(x: u8, own: Thread, other: Thread) -> Changed
+    ensures { λ r. ⌜ Acted takeLock x own other r ⌝ }
+{
+    let mut mine = own;
+    mine.flags.poll = true;
+    mine.phase = CHECK;
+    let mut theirs = other;
+    theirs.owner = x;
+    Changed {
+        answer: Answer::Moved,
+        own: mine,
+        other: theirs,
+    }
+}
+
+// Check: start to copy.
+pub fn start_copy(own: Thread, other: Thread) -> Changed
+    ensures { λ r. ⌜ ((x : ℕ) → Acted startCopy x own other r) ⌝ }
+{
+    let mut mine = own;
+    mine.copied = 0;
+    mine.phase = COPY;
+    Changed {
+        answer: Answer::Moved,
+        own: mine,
+        other: other,
+    }
+}
+
+// Check: the target is not ready, go to release.
+pub fn go_to_release(own: Thread, other: Thread) -> Changed
+    ensures { λ r. ⌜ ((x : ℕ) → Acted toRelease x own other r) ⌝ }
+{
+    let mut mine = own;
+    mine.phase = RELEASE;
+    Changed {
+        answer: Answer::Moved,
+        own: mine,
+        other: other,
+    }
+}
+
+// Copy: one word into the receiver's eight.
+pub fn copy_word(own: Thread, other: Thread, words: &mut [u32]) -> Changed
+    requires { ⌜ own .copied < 8 ⌝ }
+    requires { ⌜ length (now words) ≡ 8 ⌝ }
+    ensures acted { λ r. ⌜ ((x : ℕ) → Acted copyWord x own other r) ⌝ }
+    ensures words { λ _. ⌜ now (words .exit) ≡ set (now (words .entry)) (own .copied) (getD (own .op .send .words) (own .copied) 0) ⌝ }
+{
+    let op = own.op;
+    let send = op.send;
+    let message = send.words;
+    let k = own.copied as usize;
+    words[k] = message[k];
+    let mut mine = own;
+    mine.copied = own.copied + 1;
+    Changed {
+        answer: Answer::Moved,
+        own: mine,
+        other: other,
+    }
+}
+
+// Release: free the target's lock and go to a phase.
+pub fn free_target(phase: u8, own: Thread, other: Thread) -> Changed
+    ensures { λ r. ⌜ ((x : ℕ) (p : Phase) → phase ≡ phaseNumber p → Acted (freeTarget p) x own other r) ⌝ }
+{
+    let mut mine = own;
+    mine.phase = phase;
+    let mut theirs = other;
+    theirs.owner = threads::NOBODY;
+    Changed {
+        answer: Answer::Moved,
+        own: mine,
+        other: theirs,
+    }
+}
+
+// Sleep: go to lock.
+pub fn try_again(own: Thread, other: Thread) -> Changed
+    ensures { λ r. ⌜ ((x : ℕ) → Acted retry x own other r) ⌝ }
+{
+    let mut mine = own;
+    mine.phase = LOCK;
+    Changed {
+        answer: Answer::Moved,
+        own: mine,
+        other: other,
+    }
+}
+
+// Look: the operation has ended, go idle.
+pub fn go_idle(own: Thread, other: Thread) -> Changed
+    ensures { λ r. ⌜ ((x : ℕ) → Acted toIdle x own other r) ⌝ }
+{
+    let mut mine = own;
+    mine.phase = IDLE;
+    Changed {
+        answer: Answer::Moved,
+        own: mine,
+        other: other,
+    }
+}
+
+// Look: end with a code, idle.
+pub fn abort_receive(code: i32, own: Thread, other: Thread) -> Changed
+    ensures { λ r. ⌜ ((x : ℕ) → Acted (abortReceive code) x own other r) ⌝ }
+{
+    let mut mine = threads::end_with_code(own, code);
+    mine.phase = IDLE;
+    Changed {
+        answer: Answer::Moved,
+        own: mine,
+        other: other,
+    }
+}
+
+// Look: take the lock of sender s and go to wake.
+pub fn take_sender(x: u8, s: u8, own: Thread, other: Thread) -> Changed
+    ensures { λ r. ⌜ Acted (takeSender s) x own other r ⌝ }
+{
+    let mut mine = own;
+    mine.waking = s;
+    mine.phase = WAKE;
+    let mut theirs = other;
+    theirs.owner = x;
+    Changed {
+        answer: Answer::Moved,
+        own: mine,
+        other: theirs,
+    }
+}
+
+// Wake: clear the sender's poll, go to unlock.
+pub fn clear_poll(own: Thread, other: Thread) -> Changed
+    ensures { λ r. ⌜ ((x : ℕ) → Acted clearPoll x own other r) ⌝ }
+{
+    let mut mine = own;
+    mine.phase = UNLOCK;
+    let mut theirs = other;
+    theirs.flags.poll = false;
+    Changed {
+        answer: Answer::Moved,
+        own: mine,
+        other: theirs,
+    }
+}
+
+// Unlock: free the sender's lock, go to look.
+pub fn free_sender(own: Thread, other: Thread) -> Changed
+    ensures { λ r. ⌜ ((x : ℕ) → Acted freeSender x own other r) ⌝ }
+{
+    let mut mine = own;
+    mine.phase = LOOK;
+    let mut theirs = other;
+    theirs.owner = threads::NOBODY;
+    Changed {
+        answer: Answer::Moved,
+        own: mine,
+        other: theirs,
+    }
+}
