@@ -1,0 +1,144 @@
+-- On which action a phase settles, by the tests in the order of the code.
+use mathlib.Core.Path.{_≡_, refl, sym, _∙_, ap, subst}
+use mathlib.Core.Logic.{_≢_}
+use mathlib.Core.Bool.{true, false, not, cond}
+use mathlib.Core.Option.{Option, none, some}
+use Prim.Native.Nat.{ℕ, _≤_, _<_}
+use lib.Dec.{eqb}
+use borrow.Author.Tests.{lt-ltb, le-ltb, eq-eqb, ne-eqb}
+use Rattle.model.specs.declared.Thread.{Thread}
+use Rattle.model.specs.Answers.{wants, asleep}
+use Rattle.model.specs.Shared.{receiveTimeOver, sendTimeOver, receiveCancelled, sendCancelled, nobody, hasReceive}
+use Rattle.model.specs.Threads.{idle, lock, check, copy, release, sleep, look, lockFree, findSender, ready}
+use Rattle.model.specs.Step.{Action, stay, takeLock, abortSend, startCopy, toRelease, copyWord, finishCall, finishSend, freeTarget, retry, toIdle, abortReceive, takeSender, lookAt, decideIn}
+use Rattle.laws.proofs.Lists.{cond-true, cond-false}
+use Rattle.actions.specs.declared.Changed.{Changed}
+use Rattle.actions.specs.Acted.{Acted}
+
+-- a step that has done what it settled on
+pub settled : {a b : Action} (x : ℕ) (h r : Thread) (c : Changed) → a ≡ b → Acted b x h r c → Acted a x h r c
+settled x h r c e = subst (λ (a : Action). Acted a x h r c) (sym e)
+
+module _ (x : ℕ) (h r : Thread) where
+  -- lock: the target's lock is free
+  pub lock-takes : r .owner ≡ nobody → decideIn lock x h r ≡ takeLock
+  unfolding decideIn lockFree
+  lock-takes e = rw (eq-eqb _ _ e) refl
+
+  -- lock: it is taken
+  pub lock-wants : r .owner ≢ nobody → decideIn lock x h r ≡ stay wants
+  unfolding decideIn lockFree
+  lock-wants e = rw (ne-eqb _ _ e) refl
+
+  -- check: the own mark
+  pub check-cancelled : h .flags .mark ≡ true → decideIn check x h r ≡ abortSend sendCancelled
+  unfolding decideIn
+  check-cancelled e = rw e refl
+
+  -- check: the target is ready
+  pub check-copies : h .flags .mark ≡ false → ready r x ≡ true → decideIn check x h r ≡ startCopy
+  unfolding decideIn
+  check-copies e f = rw (e, f) refl
+
+  -- check: no time is left
+  pub check-late : h .flags .mark ≡ false → ready r x ≡ false → h .left ≡ 0 → decideIn check x h r ≡ abortSend sendTimeOver
+  unfolding decideIn
+  check-late e f g = rw (e, f, eq-eqb _ _ g) refl
+
+  -- check: else release
+  pub check-releases : h .flags .mark ≡ false → ready r x ≡ false → h .left ≢ 0 → decideIn check x h r ≡ toRelease
+  unfolding decideIn
+  check-releases e f g = rw (e, f, ne-eqb _ _ g) refl
+
+  -- copy: a word remains
+  pub copy-word : h .copied < h .op .send .count → decideIn copy x h r ≡ copyWord
+  unfolding decideIn
+  copy-word e = rw (lt-ltb _ _ e) refl
+
+  -- copy: none remains, and a receive part is there
+  pub copy-calls : h .op .send .count ≤ h .copied → hasReceive (h .op .receive) ≡ true → decideIn copy x h r ≡ finishCall
+  unfolding decideIn
+  copy-calls e f = rw (le-ltb _ _ e, f) refl
+
+  -- copy: none remains, and no receive part is there
+  pub copy-sends : h .op .send .count ≤ h .copied → hasReceive (h .op .receive) ≡ false → decideIn copy x h r ≡ finishSend
+  unfolding decideIn
+  copy-sends e f = rw (le-ltb _ _ e, f) refl
+
+  -- release: still sending
+  pub release-sleeps : h .flags .send ≡ true → decideIn release x h r ≡ freeTarget sleep
+  unfolding decideIn
+  release-sleeps e = rw e refl
+
+  -- release: receiving
+  pub release-looks : h .flags .send ≡ false → h .flags .ipc ≡ true → decideIn release x h r ≡ freeTarget look
+  unfolding decideIn
+  release-looks e f = rw (e, f) refl
+
+  -- release: ended
+  pub release-ends : h .flags .send ≡ false → h .flags .ipc ≡ false → decideIn release x h r ≡ freeTarget idle
+  unfolding decideIn
+  release-ends e f = rw (e, f) refl
+
+  -- sleep: woken
+  pub sleep-woken : h .flags .poll ≡ false → decideIn sleep x h r ≡ retry
+  unfolding decideIn
+  sleep-woken e = rw e refl
+
+  -- sleep: marked
+  pub sleep-marked : h .flags .poll ≡ true → h .flags .mark ≡ true → decideIn sleep x h r ≡ retry
+  unfolding decideIn
+  sleep-marked e f = rw (e, f) refl
+
+  -- sleep: no time is left
+  pub sleep-late : h .flags .poll ≡ true → h .flags .mark ≡ false → h .left ≡ 0 → decideIn sleep x h r ≡ retry
+  unfolding decideIn
+  sleep-late e f g = rw (e, f, eq-eqb _ _ g) refl
+
+  -- sleep: else asleep
+  pub sleep-stays : h .flags .poll ≡ true → h .flags .mark ≡ false → h .left ≢ 0 → decideIn sleep x h r ≡ stay asleep
+  unfolding decideIn
+  sleep-stays e f g = rw (e, f, ne-eqb _ _ g) refl
+
+  -- look: finished by a sender
+  pub look-ended : h .flags .ipc ≡ false → decideIn look x h r ≡ toIdle
+  unfolding decideIn
+  look-ended e = rw e refl
+
+  -- look: the own mark
+  pub look-cancelled : h .flags .ipc ≡ true → h .flags .mark ≡ true → decideIn look x h r ≡ abortReceive receiveCancelled
+  unfolding decideIn
+  look-cancelled e f = rw (e, f) refl
+
+  module _ (runs : h .flags .ipc ≡ true) (unmarked : h .flags .mark ≡ false) where
+    -- look: else by what the search finds
+    look-by : (o : Option ℕ) → findSender h ≡ o → decideIn look x h r ≡ lookAt h r o
+    unfolding decideIn
+    look-by o e = cond-true _ _ _ runs ∙ cond-false _ _ _ unmarked ∙ ap (λ (p : Option ℕ). lookAt h r p) e
+
+    module _ (missing : findSender h ≡ none) where
+      -- look: no sender is found and no time is left
+      pub look-late : h .left ≡ 0 → decideIn look x h r ≡ abortReceive receiveTimeOver
+      unfolding lookAt
+      look-late e = look-by none missing ∙ cond-true _ _ _ (eq-eqb _ _ e)
+
+      -- look: no sender is found
+      pub look-waits : h .left ≢ 0 → decideIn look x h r ≡ stay asleep
+      unfolding lookAt
+      look-waits e = look-by none missing ∙ cond-false _ _ _ (ne-eqb _ _ e)
+
+    module _ (s : ℕ) (found : findSender h ≡ some s) where
+      -- look: the sender that is found does not poll
+      pub look-found-awake : r .flags .poll ≡ false → decideIn look x h r ≡ stay asleep
+      unfolding lookAt
+      look-found-awake e = look-by (some s) found ∙ cond-false _ _ _ e
+
+      -- look: its lock is taken
+      pub look-found-wants : r .flags .poll ≡ true → r .owner ≢ nobody → decideIn look x h r ≡ stay wants
+      unfolding lookAt lockFree
+      look-found-wants e f = look-by (some s) found ∙ rw (e, ne-eqb _ _ f) refl
+
+      -- look: else it is taken now
+      pub look-takes : r .flags .poll ≡ true → r .owner ≡ nobody → decideIn look x h r ≡ takeSender s
+      unfolding lookAt lockFree
+      look-takes e f = look-by (some s) found ∙ rw (e, eq-eqb _ _ f) refl
