@@ -1,18 +1,13 @@
-use Rattle.model.specs.Step.{decideIn}
-use Rattle.model.specs.Answers.{Reply}
 use mathlib.Core.Path.{refl}
 use borrow.Author.Needs.{needs}
+use Rattle.model.specs.Answers.{Reply}
+use Rattle.model.specs.Step.{decideIn}
 use Rattle.phases.proofs.in_idle.Statement.{statement}
 use Rattle.phases.proofs.in_idle.Tie as tie
-use Rattle.phases.proofs.in_idle.Reads as reads
-use Rattle.phases.proofs.in_idle.Lts as lts
-use Rattle.actions.proofs.stay_with.Reads as stay-with-reads
 
--- src/lib.rt:19:5
 stay-with-requires : tie.Need-stay-with-requires
 stay-with-requires c κs = search needs
 
--- src/lib.rt:16:1
 returns : tie.Need-returns
 unfolding decideIn
 returns c = c .stay-with .ensures (c .before .args .x) Reply.idle refl

@@ -1,27 +1,19 @@
-use Rattle.phases.proofs.Decisions.{settled, lock-takes, lock-wants}
-use Rattle.model.specs.Answers.{wants}
 use mathlib.Core.Path.{refl}
 use borrow.Author.Needs.{needs}
+use Rattle.model.specs.Answers.{wants}
+use Rattle.phases.proofs.Decisions.{settled, lock-takes, lock-wants}
 use Rattle.phases.proofs.in_lock.Statement.{statement}
 use Rattle.phases.proofs.in_lock.Tie as tie
-use Rattle.phases.proofs.in_lock.Reads as reads
-use Rattle.phases.proofs.in_lock.Lts as lts
-use Rattle.actions.proofs.stay_with.Reads as stay-with-reads
-use Rattle.actions.proofs.take_lock.Reads as take-lock-reads
 
--- src/lib.rt:27:9
 take-lock-requires : tie.Need-take-lock-requires
 take-lock-requires c κs = search needs
 
--- src/lib.rt:27:9
 returns : tie.Need-returns
 returns c = settled _ _ _ _ (lock-takes (c .before .before .before .args .x) (c .before .before .before .args .own) (c .before .before .before .args .other) (c .before .if1 .taken)) (c .take-lock .ensures)
 
--- src/lib.rt:29:5
 stay-with-requires : tie.Need-stay-with-requires
 stay-with-requires c κs = search needs
 
--- src/lib.rt:23:1
 returns-2 : tie.Need-returns-2
 returns-2 c = settled _ _ _ _ (lock-wants (c .before .before .before .args .x) (c .before .before .before .args .own) (c .before .before .before .args .other) (c .before .if1 .left)) (c .stay-with .ensures (c .before .before .before .args .x) wants refl)
 

@@ -1,34 +1,25 @@
-use Rattle.phases.proofs.Decisions.{settled, release-sleeps, release-looks, release-ends}
-use Rattle.model.specs.Threads.{idle, sleep, look}
 use mathlib.Core.Path.{refl}
 use borrow.Author.Needs.{needs}
+use Rattle.model.specs.Threads.{idle, sleep, look}
+use Rattle.phases.proofs.Decisions.{settled, release-sleeps, release-looks, release-ends}
 use Rattle.phases.proofs.in_release.Statement.{statement}
 use Rattle.phases.proofs.in_release.Tie as tie
-use Rattle.phases.proofs.in_release.Reads as reads
-use Rattle.phases.proofs.in_release.Lts as lts
-use Rattle.actions.proofs.free_target.Reads as free-target-reads
 
--- src/lib.rt:38:9
 free-target-requires : tie.Need-free-target-requires
 free-target-requires c κs = search needs
 
--- src/lib.rt:38:9
 returns : tie.Need-returns
 returns c = settled _ _ _ _ (release-sleeps (c .before .before .before .args .x) (c .before .before .before .args .own) (c .before .before .before .args .other) (c .before .if1 .taken)) (c .free-target .ensures (c .before .before .before .args .x) sleep refl)
 
--- src/lib.rt:41:9
 free-target-requires-2 : tie.Need-free-target-requires-2
 free-target-requires-2 c κs = search needs
 
--- src/lib.rt:41:9
 returns-2 : tie.Need-returns-2
 returns-2 c = settled _ _ _ _ (release-looks (c .before .before .before .before .args .x) (c .before .before .before .before .args .own) (c .before .before .before .before .args .other) (c .before .before .if1 .left) (c .before .if2 .taken)) (c .free-target2 .ensures (c .before .before .before .before .args .x) look refl)
 
--- src/lib.rt:43:5
 free-target-requires-3 : tie.Need-free-target-requires-3
 free-target-requires-3 c κs = search needs
 
--- src/lib.rt:33:1
 returns-3 : tie.Need-returns-3
 returns-3 c = settled _ _ _ _ (release-ends (c .before .before .before .before .args .x) (c .before .before .before .before .args .own) (c .before .before .before .before .args .other) (c .before .before .if1 .left) (c .before .if2 .left)) (c .free-target3 .ensures (c .before .before .before .before .args .x) idle refl)
 

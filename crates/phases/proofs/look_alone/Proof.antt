@@ -1,27 +1,19 @@
-use Rattle.phases.proofs.Decisions.{settled, look-late, look-waits}
-use Rattle.model.specs.Answers.{asleep}
 use mathlib.Core.Path.{refl}
 use borrow.Author.Needs.{needs}
+use Rattle.model.specs.Answers.{asleep}
+use Rattle.phases.proofs.Decisions.{settled, look-late, look-waits}
 use Rattle.phases.proofs.look_alone.Statement.{statement}
 use Rattle.phases.proofs.look_alone.Tie as tie
-use Rattle.phases.proofs.look_alone.Reads as reads
-use Rattle.phases.proofs.look_alone.Lts as lts
-use Rattle.actions.proofs.abort_receive.Reads as abort-receive-reads
-use Rattle.actions.proofs.stay_with.Reads as stay-with-reads
 
--- src/lib.rt:87:9
 abort-receive-requires : tie.Need-abort-receive-requires
 abort-receive-requires c κs = search needs
 
--- src/lib.rt:87:9
 returns : tie.Need-returns
 returns c = settled _ _ _ _ (look-late (c .before .before .before .args .x) (c .before .before .before .args .own) (c .before .before .before .args .other) (c .before .before .before .pre .runs) (c .before .before .before .pre .unmarked) (c .before .before .before .pre .found) (c .before .if1 .taken)) (c .abort-receive .ensures (c .before .before .before .args .x))
 
--- src/lib.rt:89:5
 stay-with-requires : tie.Need-stay-with-requires
 stay-with-requires c κs = search needs
 
--- src/lib.rt:82:1
 returns-2 : tie.Need-returns-2
 returns-2 c = settled _ _ _ _ (look-waits (c .before .before .before .args .x) (c .before .before .before .args .own) (c .before .before .before .args .other) (c .before .before .before .pre .runs) (c .before .before .before .pre .unmarked) (c .before .before .before .pre .found) (c .before .if1 .left)) (c .stay-with .ensures (c .before .before .before .args .x) asleep refl)
 

@@ -1,0 +1,38 @@
+-- The rows of refusal in the groups in which the code tests them, and what it promises of a number.
+use mathlib.Core.Path.{_≡_}
+use mathlib.Core.List.{List, [], _∷_}
+use Prim.Native.Nat.{ℕ, _*_}
+use lib.ListN.{length}
+use Rattle.model.specs.declared.Operation.{Operation}
+use Rattle.model.specs.declared.Thread.{Thread}
+use Rattle.model.specs.declared.Table.{Table}
+use Rattle.model.specs.WellFormed.{Shaped}
+use Rattle.model.specs.Calls.{Call}
+use Rattle.model.specs.Refusals.{Row, firstRefusal, badSize, notWellFormed, noThread, badLength, lockOwned, notIdle, neitherPart, withItself, noPartner, tooManyWords, badTime, refusal}
+use Rattle.model.specs.Promise.{state}
+
+-- the rows on the table alone
+unfoldable pub tableRows : Table → List Row
+tableRows t = badSize (t .n) ∷ notWellFormed t ∷ []
+
+-- the rows on a thread's number and the length of a store
+unfoldable pub placeRows : Table → ℕ → ℕ → List Row
+placeRows t x words = noThread t x ∷ badLength (8 * t .n) words ∷ []
+
+-- the rows on the thread that begins
+unfoldable pub threadRows : Table → ℕ → List Row
+threadRows t x = lockOwned t x ∷ notIdle t x ∷ []
+
+-- the rows on the operation that it begins
+unfoldable pub operationRows : Table → ℕ → Operation → List Row
+operationRows t x o = neitherPart o ∷ withItself x o ∷ noPartner t o ∷ tooManyWords o ∷ badTime o ∷ []
+
+-- the number by which call c is refused, where it is given a store of so many words; a table that is not refused has its arrays whole
+pub record Refuses (c : Call) (t : Table) (words number : ℕ) : Type 0 where
+  pub tells : (store : List ℕ) → length store ≡ words → number ≡ refusal c (state t store)
+  pub shaped : number ≡ 0 → Shaped t
+
+-- the same of the rows on the table alone
+pub record RefusesTable (t : Table) (number : ℕ) : Type 0 where
+  pub tells : number ≡ firstRefusal (tableRows t)
+  pub shaped : number ≡ 0 → Shaped t
