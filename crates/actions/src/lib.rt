@@ -1,13 +1,12 @@
 // The actions of a step: each takes the stepped thread and the other one, and returns both as the action leaves them.
 ghost use mathlib.Core.Path.{_≡_};
-ghost use Prim.Native.Nat.{ℕ, _<_, _≤_};
+ghost use Prim.Native.Nat.{ℕ, _<_};
 ghost use lib.ListN.{length, getD, set};
+ghost use Rattle.model.specs.declared.Thread.{Thread};
 ghost use Rattle.model.specs.Answers.{Reply, said, replied};
-ghost use Rattle.model.specs.Lists.{occurs};
-ghost use Rattle.model.specs.Shared.{hasReceive};
-ghost use Rattle.model.specs.Threads.{Phase, phaseNumber, senders};
-ghost use Rattle.model.specs.Step.{stay, takeLock, abortSend, startCopy, toRelease, copyWord, finishCall, finishSend, freeTarget, retry, toIdle, abortReceive, takeSender, clearPoll, freeSender};
-ghost use Rattle.actions.specs.Acted.{Acted};
+ghost use Rattle.model.specs.Threads.{Phase, phaseNumber};
+ghost use Rattle.model.specs.Step.{received, stay, takeLock, abortSend, startCopy, toRelease, copyWord, finishCall, finishSend, freeTarget, retry, toIdle, abortReceive, takeSender, clearPoll, freeSender};
+ghost use Rattle.actions.specs.Acted.{Acted, Waits};
 use model::Answer;
 use model::Outcome;
 use model::Thread;
@@ -65,6 +64,22 @@ pub fn take_lock(x: u8, own: Thread, other: Thread) -> Changed
     }
 }
 
+// Check: abort with a code, leave the target's queue, drop the receive part, go to release.
+pub fn abort_send(x: u8, code: i32, own: Thread, other: Thread) -> Changed
+    requires { ⌜ Waits x other ⌝ }
+    ensures { λ r. ⌜ Acted (abortSend code) x own other r ⌝ }
+{
+    let ended = threads::end_with_code(own, code);
+    let mut mine = threads::drop_receive(ended);
+    mine.phase = RELEASE;
+    let theirs = queues::depart(other, x);
+    Changed {
+        answer: Answer::Moved,
+        own: mine,
+        other: theirs,
+    }
+}
+
 // Check: start to copy.
 pub fn start_copy(own: Thread, other: Thread) -> Changed
     ensures { λ r. ⌜ ((x : ℕ) → Acted startCopy x own other r) ⌝ }
@@ -110,6 +125,58 @@ pub fn copy_word(own: Thread, other: Thread, words: &mut [u32]) -> Changed
         answer: Answer::Moved,
         own: mine,
         other: other,
+    }
+}
+
+// The receiver of a message of count words from x: the sender gone from its queue, and its receive completed.
+fn complete_receive(x: u8, count: u8, other: Thread) -> Thread
+    requires { ⌜ Waits x other ⌝ }
+    ensures { λ r. ⌜ ((h : Thread) → h .op .send .count ≡ count → r ≡ received x h other) ⌝ }
+{
+    let outcome = Outcome {
+        code: threads::DONE,
+        source: x,
+        count: count,
+    };
+    let theirs = queues::depart(other, x);
+    threads::end_with(theirs, outcome)
+}
+
+// Copy: no word remains, and the receive part of the operation follows.
+pub fn finish_call(x: u8, own: Thread, other: Thread) -> Changed
+    requires { ⌜ Waits x other ⌝ }
+    ensures { λ r. ⌜ Acted finishCall x own other r ⌝ }
+{
+    let op = own.op;
+    let send = op.send;
+    let receive = op.receive;
+    let mut mine = own;
+    mine.flags.send = false;
+    mine.flags.poll = false;
+    mine.left = threads::tick_count(threads::receive_time(receive));
+    mine.phase = RELEASE;
+    let theirs = complete_receive(x, send.count, other);
+    Changed {
+        answer: Answer::Moved,
+        own: mine,
+        other: theirs,
+    }
+}
+
+// Copy: no word remains, and the operation ends.
+pub fn finish_send(x: u8, own: Thread, other: Thread) -> Changed
+    requires { ⌜ Waits x other ⌝ }
+    ensures { λ r. ⌜ Acted finishSend x own other r ⌝ }
+{
+    let op = own.op;
+    let send = op.send;
+    let mut mine = threads::end_with_code(own, threads::DONE);
+    mine.phase = RELEASE;
+    let theirs = complete_receive(x, send.count, other);
+    Changed {
+        answer: Answer::Moved,
+        own: mine,
+        other: theirs,
     }
 }
 

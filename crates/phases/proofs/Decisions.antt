@@ -3,21 +3,79 @@ use mathlib.Core.Path.{_≡_, refl, sym, _∙_, ap, subst}
 use mathlib.Core.Logic.{_≢_}
 use mathlib.Core.Bool.{true, false, not, cond}
 use mathlib.Core.Option.{Option, none, some}
-use Prim.Native.Nat.{ℕ, _≤_, _<_}
-use lib.Dec.{eqb}
+use mathlib.Core.List.{List}
+use Prim.Native.Nat.{ℕ, suc, _≤_, _<_}
+use native.Mathlib.Omega.{arith}
+use lib.ListN.{List·getD-eq-default}
 use borrow.Author.Tests.{lt-ltb, le-ltb, eq-eqb, ne-eqb}
 use Rattle.model.specs.declared.Thread.{Thread}
 use Rattle.model.specs.Answers.{wants, asleep}
 use Rattle.model.specs.Shared.{receiveTimeOver, sendTimeOver, receiveCancelled, sendCancelled, nobody, hasReceive}
-use Rattle.model.specs.Threads.{idle, lock, check, copy, release, sleep, look, lockFree, findSender, ready}
-use Rattle.model.specs.Step.{Action, stay, takeLock, abortSend, startCopy, toRelease, copyWord, finishCall, finishSend, freeTarget, retry, toIdle, abortReceive, takeSender, lookAt, decideIn}
+use Rattle.model.specs.Threads.{Phase, idle, lock, check, copy, release, sleep, look, wake, unlock, unknown, phases, phaseOf, phaseNumber, lockFree, findSender, ready}
+use Rattle.model.specs.Step.{Action, stay, takeLock, abortSend, startCopy, toRelease, copyWord, finishCall, finishSend, freeTarget, retry, toIdle, abortReceive, takeSender, other, lookAt, decideIn}
+use Rattle.model.proofs.Laws.{same?}
+use Rattle.laws.proofs.Decided.{other-in}
 use Rattle.laws.proofs.Lists.{cond-true, cond-false}
 use Rattle.actions.specs.declared.Changed.{Changed}
 use Rattle.actions.specs.Acted.{Acted}
+use Rattle.phases.specs.Fit.{wordAdded, wordsAfter}
 
 -- a step that has done what it settled on
 pub settled : {a b : Action} (x : ℕ) (h r : Thread) (c : Changed) → a ≡ b → Acted b x h r c → Acted a x h r c
 settled x h r c e = subst (λ (a : Action). Acted a x h r c) (sym e)
+
+-- a phase's number stands for it
+number-is : (p : Phase) → phaseOf (phaseNumber p) ≡ p
+unfolding phaseOf
+number-is idle = refl
+number-is lock = refl
+number-is check = refl
+number-is copy = refl
+number-is release = refl
+number-is sleep = refl
+number-is look = refl
+number-is wake = refl
+number-is unlock = refl
+number-is unknown = refl
+
+-- a thread with the number of a phase is in it
+pub in-number : (p : Phase) (k : ℕ) → k ≡ phaseNumber p → phaseOf k ≡ p
+in-number p k e = ap phaseOf e ∙ number-is p
+
+-- a step that has done what its phase settles on
+pub settled-in : (p : Phase) (x : ℕ) (h r : Thread) (c : Changed) → h .phase ≡ phaseNumber p → Acted (decideIn p x h r) x h r c → Acted (decideIn (phaseOf (h .phase)) x h r) x h r c
+settled-in p x h r c e = settled x h r c (ap (λ (q : Phase). decideIn q x h r) (in-number p (h .phase) e))
+
+-- only a thread in copy changes the other's words
+pub words-kept : (h : Thread) (words : List ℕ) → h .phase ≢ phaseNumber copy → words ≡ wordsAfter h words
+unfolding wordsAfter
+words-kept h words d = sym (cond-false _ _ _ (ne-eqb _ _ d))
+
+-- and it adds a word, if one remains
+pub words-copied : (h : Thread) (words : List ℕ) → h .phase ≡ phaseNumber copy → wordAdded h words ≡ wordsAfter h words
+unfolding wordsAfter
+words-copied h words e = sym (cond-true _ _ _ (eq-eqb _ _ e))
+
+-- a number past the last phase is none
+pub unknown-phase : (k : ℕ) → 9 ≤ k → phaseOf k ≡ unknown
+unfolding phaseOf
+unknown-phase k h = List·getD-eq-default phases unknown h
+
+-- a number that is at least m and is not m is larger
+past : (m k : ℕ) → m ≤ k → k ≢ m → suc m ≤ k
+past m k h d = omega arith
+
+-- a number that is none of the nine is past the last
+pub past-last : (k : ℕ) → k ≢ 0 → k ≢ 1 → k ≢ 2 → k ≢ 3 → k ≢ 4 → k ≢ 5 → k ≢ 6 → k ≢ 7 → k ≢ 8 → phaseOf k ≡ unknown
+past-last k a b c d e f g h i =
+    unknown-phase k (past 8 k (past 7 k (past 6 k (past 5 k (past 4 k (past 3 k (past 2 k (past 1 k (past 0 k (omega arith) a) b) c) d) e) f) g) h) i)
+
+-- in idle, in sleep and in no phase a step has no other thread
+pub no-other : (h : Thread) → h .phase ≢ 1 → h .phase ≢ 2 → h .phase ≢ 3 → h .phase ≢ 4 → h .phase ≢ 6 → h .phase ≢ 7 → h .phase ≢ 8 → other h ≡ nobody
+no-other h a b c d e f g =
+    same? (h .phase) 0 (λ i. other-in h idle (in-number idle (h .phase) i)) (λ i.
+    same? (h .phase) 5 (λ j. other-in h sleep (in-number sleep (h .phase) j)) (λ j.
+    other-in h unknown (past-last (h .phase) i a b c d j e f g)))
 
 module _ (x : ℕ) (h r : Thread) where
   -- lock: the target's lock is free

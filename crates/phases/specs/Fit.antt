@@ -2,15 +2,14 @@
 use mathlib.Core.Path.{_≡_}
 use mathlib.Core.Bool.{true, false, cond}
 use mathlib.Core.Option.{Option, none, some}
-use mathlib.Core.List.{List, [], _∷_}
+use mathlib.Core.List.{List}
 use Prim.Native.Nat.{ℕ, _≤_}
 use lib.ListN.{getD, set}
 use lib.Dec.{eqb, ltb}
 use Rattle.model.specs.declared.Thread.{Thread}
-use Rattle.model.specs.Lists.{occurs}
 use Rattle.model.specs.Shared.{nobody, wordLimit}
-use Rattle.model.specs.Threads.{check, copy, look, phaseOf, senders, findSender}
-use Rattle.model.specs.WellFormed.{inPhase}
+use Rattle.model.specs.Threads.{check, copy, look, phaseOf, phaseNumber, findSender}
+use Rattle.actions.specs.Acted.{Waits}
 
 -- what the search has found, where o is the first acceptable sender or nobody
 unfoldable pub foundAs : ℕ → Option ℕ
@@ -21,11 +20,6 @@ pub record LooksOn (h : Thread) (o : Option ℕ) : Type 0 where
   pub runs : h .flags .ipc ≡ true
   pub unmarked : h .flags .mark ≡ false
   pub found : findSender h ≡ o
-
--- sender x waits in the queue of thread r
-pub record Waits (x : ℕ) (r : Thread) : Type 0 where
-  pub few : r .queue .len ≤ 32
-  pub there : 1 ≤ occurs x (senders r)
 
 -- thread x, which is h, can step with r for the thread o, as a well-formed table lets it
 pub record Fit (x o : ℕ) (h r : Thread) : Type 0 where
@@ -40,4 +34,4 @@ wordAdded h words = cond (ltb (h .copied) (h .op .send .count)) (set words (h .c
 
 -- the other thread's eight words after a step in any phase
 unfoldable pub wordsAfter : Thread → List ℕ → List ℕ
-wordsAfter h words = cond (inPhase (copy ∷ []) h) (wordAdded h words) words
+wordsAfter h words = cond (eqb (h .phase) (phaseNumber copy)) (wordAdded h words) words

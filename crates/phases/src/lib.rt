@@ -4,10 +4,10 @@ ghost use mathlib.Core.Option.{none, some};
 ghost use Prim.Native.Nat.{_≤_};
 ghost use lib.ListN.{length};
 ghost use Rattle.model.specs.Shared.{wordLimit};
-ghost use Rattle.model.specs.Threads.{idle, lock, check, copy, release, sleep, look, phaseOf, findSender};
+ghost use Rattle.model.specs.Threads.{idle, lock, check, copy, release, sleep, look, wake, unlock, phaseOf, findSender};
 ghost use Rattle.model.specs.Step.{other, decideIn};
-ghost use Rattle.actions.specs.Acted.{Acted};
-ghost use Rattle.phases.specs.Fit.{foundAs, LooksOn, Waits, Fit, wordAdded, wordsAfter};
+ghost use Rattle.actions.specs.Acted.{Acted, Waits};
+ghost use Rattle.phases.specs.Fit.{foundAs, LooksOn, Fit, wordAdded, wordsAfter};
 use actions::Changed;
 use model::Answer;
 use model::Thread;
@@ -27,6 +27,43 @@ fn in_lock(x: u8, own: Thread, other: Thread) -> Changed
         return actions::take_lock(x, own, other);
     }
     actions::stay_with(Answer::Wants, own, other)
+}
+
+// Check: abort if marked, copy if the target is ready, abort if no time is left, else release.
+fn in_check(x: u8, own: Thread, other: Thread) -> Changed
+    requires { ⌜ Waits x other ⌝ }
+    ensures { λ r. ⌜ Acted (decideIn check x own other) x own other r ⌝ }
+{
+    if own.flags.mark {
+        return actions::abort_send(x, threads::SEND_CANCELLED, own, other);
+    }
+    if threads::is_ready(other, x) {
+        return actions::start_copy(own, other);
+    }
+    if own.left == 0 {
+        return actions::abort_send(x, threads::SEND_TIME_OVER, own, other);
+    }
+    actions::go_to_release(own, other)
+}
+
+// Copy: one word into the receiver's eight; when none remains, finish.
+fn in_copy(x: u8, own: Thread, other: Thread, words: &mut [u32]) -> Changed
+    requires { ⌜ Waits x other ⌝ }
+    requires { ⌜ own .op .send .count ≤ wordLimit ⌝ }
+    requires { ⌜ length (now words) ≡ 8 ⌝ }
+    ensures acted { λ r. ⌜ Acted (decideIn copy x own other) x own other r ⌝ }
+    ensures words { λ _. ⌜ now (words .exit) ≡ wordAdded own (now (words .entry)) ⌝ }
+{
+    let op = own.op;
+    let send = op.send;
+    if own.copied < send.count {
+        return actions::copy_word(own, other, words);
+    }
+    let receive = op.receive;
+    if threads::has_receive(receive) {
+        return actions::finish_call(x, own, other);
+    }
+    actions::finish_send(x, own, other)
 }
 
 // Release: free the target's lock; then sleep, look or idle.
@@ -101,4 +138,60 @@ fn look_at_sender(x: u8, s: u8, own: Thread, other: Thread) -> Changed
         return actions::stay_with(Answer::Wants, own, other);
     }
     actions::take_sender(x, s, own, other)
+}
+
+// Wake: clear the sender's poll.
+fn in_wake(x: u8, own: Thread, other: Thread) -> Changed
+    ensures { λ r. ⌜ Acted (decideIn wake x own other) x own other r ⌝ }
+{
+    actions::clear_poll(own, other)
+}
+
+// Unlock: free the sender's lock.
+fn in_unlock(x: u8, own: Thread, other: Thread) -> Changed
+    ensures { λ r. ⌜ Acted (decideIn unlock x own other) x own other r ⌝ }
+{
+    actions::free_sender(own, other)
+}
+
+// The number of the one other thread that a step reads or changes, or nobody.
+pub fn other_number(own: Thread) -> u8
+    requires { ⌜ own .queue .len ≤ 32 ⌝ }
+    ensures { λ r. ⌜ r ≡ other own ⌝ }
+{
+    let op = own.op;
+    let send = op.send;
+    let phase = own.phase;
+    match phase {
+        1 => send.target,
+        2 => send.target,
+        3 => send.target,
+        4 => send.target,
+        6 => queues::first_acceptable(own),
+        7 => own.waking,
+        8 => own.waking,
+        _ => threads::NOBODY,
+    }
+}
+
+// A step of thread x, whose lock is free, with the other thread o and its eight words.
+pub fn step_threads(x: u8, o: u8, own: Thread, other: Thread, words: &mut [u32]) -> Changed
+    requires { ⌜ Fit x o own other ⌝ }
+    requires { ⌜ length (now words) ≡ 8 ⌝ }
+    ensures acted { λ r. ⌜ Acted (decideIn (phaseOf (own .phase)) x own other) x own other r ⌝ }
+    ensures words { λ _. ⌜ now (words .exit) ≡ wordsAfter own (now (words .entry)) ⌝ }
+{
+    let phase = own.phase;
+    match phase {
+        0 => in_idle(x, own, other),
+        1 => in_lock(x, own, other),
+        2 => in_check(x, own, other),
+        3 => in_copy(x, own, other, words),
+        4 => in_release(x, own, other),
+        5 => in_sleep(x, own, other),
+        6 => in_look(x, o, own, other),
+        7 => in_wake(x, own, other),
+        8 => in_unlock(x, own, other),
+        _ => in_idle(x, own, other),
+    }
 }

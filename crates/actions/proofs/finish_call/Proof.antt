@@ -1,0 +1,30 @@
+use mathlib.Core.Path.{refl, _∙_, ap}
+use Prim.Native.Nat.{ℕ}
+use borrow.Author.Needs.{needs}
+use Rattle.model.specs.Shared.{tickCount}
+use Rattle.model.specs.Step.{replyOf, ownAfter, otherAfter}
+use Rattle.model.specs.Threads.{release, entering, withLeft, sent}
+use Rattle.actions.proofs.finish_call.Statement.{statement}
+use Rattle.actions.proofs.finish_call.Tie as tie
+
+receive-time-requires : tie.Need-receive-time-requires
+receive-time-requires c κs = search needs
+
+tick-count-requires : tie.Need-tick-count-requires
+tick-count-requires c κs = search needs
+
+complete-receive-requires : tie.Need-complete-receive-requires
+complete-receive-requires c κs = search needs
+
+returns : tie.Need-returns
+unfolding replyOf ownAfter otherAfter
+returns c = record {
+  own = ap (λ (k : ℕ). entering release (withLeft k (sent (c .before .before .before .before .before .before .before .args .own)))) (c .before .tick-count .ensures ∙ ap tickCount (c .before .before .receive-time .ensures));
+  other = c .complete-receive .ensures (c .before .before .before .before .before .before .before .args .own) refl;
+  answers = refl;
+}
+
+pub finish-call-spec : {M : Type 1} → statement M
+finish-call-spec =
+    tie.close
+    (tie.spec receive-time-requires tick-count-requires complete-receive-requires returns)

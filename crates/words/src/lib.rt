@@ -1,0 +1,48 @@
+// The caller's word store, by slices of it: thread x's eight words start at place 8 × x.
+ghost use mathlib.Core.Path.{_≡_};
+ghost use Prim.Native.Nat.{_+_, _*_, _<_, _≤_};
+ghost use lib.ListN.{length, set, take, replicate};
+ghost use Rattle.model.specs.Threads.{wordsAt, zeroed};
+
+// How many words a thread has.
+const WORDS: usize = 8;
+
+// One word into a thread's eight.
+pub fn put_word(words: &mut [u32], k: usize, w: u32)
+    requires { ⌜ k < length (now words) ⌝ }
+    ensures { λ _. ⌜ now (words .exit) ≡ set (now (words .entry)) k w ⌝ }
+{
+    words[k] = w;
+}
+
+// Zero in every word of a slice.
+pub fn zero_words(words: &mut [u32])
+    ensures { λ _. ⌜ now (words .exit) ≡ replicate (length (now (words .entry))) 0 ⌝ }
+{
+    let mut i: usize = 0;
+    while i < words.len() {
+        words[i] = 0;
+        i += 1;
+    }
+}
+
+// Zero in thread x's eight words.
+pub fn zero_thread(store: &mut [u32], x: u8)
+    requires { ⌜ 8 * x + 8 ≤ length (now store) ⌝ }
+    ensures { λ _. ⌜ now (store .exit) ≡ zeroed x (now (store .entry)) ⌝ }
+{
+    let start = WORDS * (x as usize);
+    let end = start + WORDS;
+    zero_words(&mut store[start..end]);
+}
+
+// The first count of thread x's eight words, as a slice of the store.
+pub fn first_words<'a>(store: &'a [u32], x: u8, count: u8) -> &'a [u32]
+    requires { ⌜ 8 * x + 8 ≤ length (now store) ⌝ }
+    requires { ⌜ count ≤ 8 ⌝ }
+    ensures { λ r. ⌜ now r ≡ take count (wordsAt (now (store .entry)) x) ⌝ }
+{
+    let start = WORDS * (x as usize);
+    let end = start + (count as usize);
+    &store[start..end]
+}
