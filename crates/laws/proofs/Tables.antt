@@ -5,7 +5,7 @@ use mathlib.Core.List.{List}
 use Prim.Native.Nat.{ℕ, zero, suc, _≤_, _<_}
 use native.Mathlib.Omega.{arith}
 use lib.ListN.{length, length-set}
-use lib.Seq.{getD-set-same, getD-set-other, set-getD}
+use lib.Seq.{getD-set-same, getD-set-other, set-getD, set-set, set-out}
 use Rattle.model.specs.declared.Thread.{Thread}
 use Rattle.model.specs.declared.Table.{Table}
 use Rattle.model.specs.Lists.{update}
@@ -39,6 +39,16 @@ put-other x h t y d = getD-set-other (t .threads) x y h zeroThread d
 pub put-own : (x : ℕ) (t : Table) → put x (at t x) t ≡ t
 unfolding at put
 put-own x t = ap {B = Table} (λ (threads : List Thread). record { n = t .n; threads = threads }) (set-getD (t .threads) x zeroThread)
+
+-- of two threads that are put at one place the second stays
+pub put-over : (x : ℕ) (h k : Thread) (t : Table) → put x h (put x k t) ≡ put x h t
+unfolding put
+put-over x h k t = ap {B = Table} (λ (threads : List Thread). record { n = t .n; threads = threads }) (set-set (t .threads) x k h)
+
+-- a thread that is put past the array's end changes nothing
+pub put-nowhere : (x : ℕ) (h : Thread) (t : Table) → length (t .threads) ≤ x → put x h t ≡ t
+unfolding put
+put-nowhere x h t l = ap {B = Table} (λ (threads : List Thread). record { n = t .n; threads = threads }) (set-out (t .threads) x h l)
 
 -- all threads at once
 pub put-at : (x : ℕ) (h : Thread) (t : Table) → x < length (t .threads) → at (put x h t) ≡ update (at t) x h
