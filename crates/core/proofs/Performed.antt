@@ -1,12 +1,129 @@
--- A call that is not refused keeps its promise where it does what the accepted call does.
-use mathlib.Core.Path.{_≡_, sym, _∙_}
+-- What a call that may run is owed and may rely on: its promise from what it answers and leaves, by the code's tests, and the places that it reads and writes.
+use mathlib.Core.Path.{_≡_, refl, sym, ap, _∙_}
+use mathlib.Core.Bool.{true, false}
+use mathlib.Core.List.{List, []}
+use Prim.Native.Nat.{ℕ, _+_, _*_, _≤_, _<_}
+use native.Mathlib.Numerals.{add-one}
+use native.Mathlib.Omega.{arith}
+use lib.ListN.{length}
+use borrow.Author.Tests.{le-leb, lt-leb}
+use Rattle.model.specs.declared.Operation.{Operation}
+use Rattle.model.specs.declared.Thread.{Thread}
+use Rattle.model.specs.declared.Table.{Table}
 use Rattle.model.specs.declared.Answer.{Answer}
+use Rattle.model.specs.declared.Answer.the-variants.{Accepted, Marked, NothingToCancel}
 use Rattle.model.specs.Answers.{replied, said}
-use Rattle.model.specs.Calls.{Call, State, acceptedReply, acceptedState}
-use Rattle.model.specs.Refusals.{refusal}
-use Rattle.model.specs.Promise.{Promise}
-use Rattle.laws.proofs.Calls.{accepted-next, accepted-answer}
+use Rattle.model.specs.Shared.{noReceiver, codeOnly, targetBeyond}
+use Rattle.model.specs.Threads.{lock, look, at, put, edit, editBelow, marked, ended, joined, zeroed}
+use Rattle.model.specs.Calls.{begun, beginTable, cancelTable, cancelReply, ticked, tickTable, Call, begin, cancel, tick, State, acceptedReply, acceptedState}
+use Rattle.model.specs.Refusals.{rowsOf, refusal}
+use Rattle.model.specs.Promise.{state, Promise}
+use Rattle.model.proofs.Free.{target-beyond}
+use Rattle.laws.proofs.Refusals.{AcceptedBegin, accepted-begin, accepted-cancel}
+use Rattle.laws.proofs.Calls.{accepted-next, accepted-answer, begins-to-send, begins-to-receive, cancel-marks, cancel-marks-reply, cancel-nothing, cancel-nothing-reply}
+use Rattle.formed.proofs.Formed.{Formed}
+use Rattle.formed.proofs.Neighbours.{quiet-in-idle, queue-room}
+use Rattle.invariant.proofs.Keeps.{found-formed}
+use Rattle.core.specs.Allowed.{Allowed}
 
--- the promise of an accepted call
-pub performed : (c : Call) (s : State) → refusal c s ≡ 0 → (a : Answer) (after : State) → said a ≡ replied (acceptedReply c s) → after ≡ acceptedState c s → Promise c s a after
-performed c s e a after says leaves = record { answers = says ∙ sym (accepted-answer c s e); leaves = leaves ∙ sym (accepted-next c s e) }
+-- ---- every call
+module _ (c : Call) (s : State) where
+  -- a call that is not refused keeps its promise where it answers and leaves what an accepted call does
+  pub performed : refusal c s ≡ 0 → (a : Answer) (after : State) → said a ≡ replied (acceptedReply c s) → after ≡ acceptedState c s → Promise c s a after
+  performed e a after says leaves = record { answers = says ∙ sym (accepted-answer c s e); leaves = leaves ∙ sym (accepted-next c s e) }
+
+  -- a call that may run finds well-formed threads
+  pub allowed-formed : Allowed c s → Formed (s .table .n) (at (s .table))
+  allowed-formed may = found-formed c s (may .shaped) (may .accepted)
+
+  -- there are at most 32 of them
+  pub allowed-few : Allowed c s → s .table .n ≤ 32
+  allowed-few may = allowed-formed may .few
+
+-- ---- begin
+module _ (x : ℕ) (o : Operation) (s : State) (may : Allowed (begin x o) s) where
+  -- what it was tested for
+  tested : AcceptedBegin s x o
+  tested = accepted-begin x o s (may .accepted)
+
+  -- the thread has a place in the array
+  pub begin-place : x < 32
+  begin-place = omega (arith, tested .below, allowed-few (begin x o) s may)
+
+  -- and eight words in the store
+  pub begin-words : 8 * x + 8 ≤ length (s .store)
+  begin-words = omega (arith, tested .below, tested .store)
+
+  -- a target in the table has a place in the array
+  pub target-place : o .send .target < s .table .n → o .send .target < 32
+  target-place near = omega (arith, allowed-few (begin x o) s may)
+
+  -- and room in its queue
+  pub target-room : o .send .target < s .table .n → at (s .table) (o .send .target) .queue .len < 32
+  target-room near = let F = allowed-formed (begin x o) s may in
+      queue-room F x (o .send .target) (tested .below) near (quiet-in-idle F x (tested .below) (tested .inIdle))
+
+  module _ (words : List ℕ) (cleared : words ≡ zeroed x (s .store)) where
+    -- the promise by the table that is left
+    begin-performed : (after : Table) → after ≡ beginTable x o (s .table) → Promise (begin x o) s Accepted (state after words)
+    unfolding acceptedReply acceptedState
+    begin-performed after left = performed (begin x o) s (may .accepted) Accepted (state after words) refl (rw (left, cleared) refl)
+
+    -- with a target of n or more: h is the thread that ended
+    pub begin-beyond : o .send .present ≡ true → s .table .n ≤ o .send .target → (h : Thread) → h ≡ ended (codeOnly noReceiver) (at (s .table) x)
+        → Promise (begin x o) s Accepted (state (put x h (s .table)) words)
+    unfolding edit targetBeyond
+    begin-beyond sends far h is = begin-performed _ (rw is (sym (target-beyond x o (s .table) (rw (sends, le-leb (s .table .n) (o .send .target) far) refl))))
+
+    -- with a target in the table: g is the target with the thread in its queue, h the thread that began
+    pub begin-sends : o .send .present ≡ true → o .send .target < s .table .n → (g h : Thread) → g ≡ joined x (at (s .table) (o .send .target))
+        → h ≡ begun o lock (at (put (o .send .target) g (s .table)) x) → Promise (begin x o) s Accepted (state (put x h (put (o .send .target) g (s .table))) words)
+    unfolding edit targetBeyond
+    begin-sends sends near g h joins is = begin-performed _ (rw (is, joins) (sym (begins-to-send x o (s .table) (rw (sends, lt-leb (s .table .n) (o .send .target) near) refl) sends)))
+
+    -- without a send part: h is the thread that began
+    pub begin-receives : o .send .present ≡ false → (h : Thread) → h ≡ begun o look (at (s .table) x) → Promise (begin x o) s Accepted (state (put x h (s .table)) words)
+    unfolding edit
+    begin-receives alone h is = begin-performed _ (rw is (sym (begins-to-receive x o (s .table) alone)))
+
+-- ---- cancel
+-- the thread has a place in the array
+pub cancel-place : (x : ℕ) (s : State) → Allowed (cancel x) s → x < 32
+cancel-place x s may = omega (arith, accepted-cancel x s (may .accepted) .below, allowed-few (cancel x) s may)
+
+module _ (x : ℕ) (t : Table) (may : Allowed (cancel x) (state t [])) where
+  -- the promise by the answer and the table that is left, whatever the store
+  cancel-performed : (a : Answer) (after : Table) → said a ≡ replied (cancelReply x t) → after ≡ cancelTable x t → (store : List ℕ) → Promise (cancel x) (state t store) a (state after store)
+  unfolding acceptedReply acceptedState refusal rowsOf
+  cancel-performed a after says left store = performed (cancel x) (state t store) (may .accepted) a (state after store) says (ap (λ (u : Table). state u store) left)
+
+  -- of a running operation: h is the thread with its mark
+  pub cancel-running : at t x .flags .ipc ≡ true → (h : Thread) → h ≡ marked (at t x) → (store : List ℕ) → Promise (cancel x) (state t store) Marked (state (put x h t) store)
+  unfolding edit
+  cancel-running runs h is = cancel-performed Marked _ (ap replied (sym (cancel-marks-reply x t runs))) (ap (λ (k : Thread). put x k t) is ∙ sym (cancel-marks x t runs))
+
+  -- where nothing runs
+  pub cancel-over : at t x .flags .ipc ≡ false → (store : List ℕ) → Promise (cancel x) (state t store) NothingToCancel (state t store)
+  cancel-over over = cancel-performed NothingToCancel t (ap replied (sym (cancel-nothing-reply x t over))) (sym (cancel-nothing x t over))
+
+-- ---- tick
+module _ (t : Table) where
+  -- the promise by the table that is left, whatever the store
+  pub tick-performed : Allowed tick (state t []) → (after : Table) → after ≡ tickTable t → (store : List ℕ) → Promise tick (state t store) Accepted (state after store)
+  unfolding acceptedReply acceptedState refusal rowsOf
+  tick-performed may after left store = performed tick (state t store) (may .accepted) Accepted (state after store) refl (ap (λ (u : Table). state u store) left)
+
+  -- no thread is ticked yet
+  pub none-ticked : t ≡ editBelow 0 ticked t
+  unfolding editBelow
+  none-ticked = refl
+
+  -- one more thread is ticked: h is thread i
+  pub one-more-ticked : (now : Table) (i : ℕ) (h : Thread) → now ≡ editBelow i ticked t → h ≡ ticked (at now i) → put i h now ≡ editBelow (i + 1) ticked t
+  unfolding editBelow edit
+  one-more-ticked now i h so is = rw (add-one, is, so) refl
+
+  -- all are ticked
+  pub all-ticked : (now : Table) (i : ℕ) → now ≡ editBelow i ticked t → i ≡ t .n → now ≡ tickTable t
+  unfolding tickTable
+  all-ticked now i so all = so ∙ ap (λ (k : ℕ). editBelow k ticked t) all

@@ -30,14 +30,13 @@ use Rattle.laws.proofs.Refusals.{accepted-step}
 use Rattle.formed.proofs.Facts.{count-small, queue-small}
 use Rattle.formed.proofs.Formed.{Formed}
 use Rattle.formed.proofs.Neighbours.{below-nobody, number, sends-in-check, sends-in-copy, target-in-lock, target-in-check, target-in-copy, target-in-release, woken-in-wake, woken-in-unlock, queued-sends, queued-at-target}
-use Rattle.invariant.proofs.Keeps.{found-formed}
 use Rattle.actions.specs.declared.Changed.{Changed}
 use Rattle.actions.specs.Acted.{Acted, Waits}
 use Rattle.phases.specs.Fit.{foundAs, Fit, wordAdded, wordsAfter}
 use Rattle.phases.proofs.Decisions.{in-number, copy-word, copy-calls, copy-sends, words-kept, words-copied}
 use Rattle.core.specs.Allowed.{Allowed}
 use Rattle.core.specs.Places.{orOwn}
-use Rattle.core.proofs.Performed.{performed}
+use Rattle.core.proofs.Performed.{performed, allowed-formed}
 
 -- where there is another thread, it is the one that is read
 pub or-other : (o x n : ℕ) → n ≤ nobody → o < n → orOwn o x ≡ o
@@ -150,7 +149,7 @@ module _ (x : ℕ) (s : State) (allowed : Allowed (step x) s) where
 
   -- what the table tells
   formed : Formed (before .n) (at before)
-  formed = found-formed (step x) s (allowed .shaped) (allowed .accepted)
+  formed = allowed-formed (step x) s allowed
 
   -- the thread is in the table
   below : x < before .n

@@ -1,12 +1,148 @@
 // The calls where they are not refused: each runs from a table that has passed the check, and leaves one that would.
 ghost use mathlib.Core.Path.{_≡_};
-ghost use Rattle.model.specs.Calls.{Call};
-ghost use Rattle.model.specs.Promise.{Promise, state};
+ghost use mathlib.Core.List.{List, []};
+ghost use Prim.Native.Nat.{ℕ};
+ghost use Rattle.model.specs.Shared.{firstTime};
+ghost use Rattle.model.specs.Threads.{Phase, phaseNumber, noOperation, newThread, newTable};
+ghost use Rattle.model.specs.Calls.{Call, begunFlags, begun};
+ghost use Rattle.model.specs.Promise.{state, Promise};
 ghost use Rattle.core.specs.Allowed.{Allowed};
 ghost use Rattle.core.specs.Places.{orOwn};
 use model::Answer;
+use model::Flags;
+use model::Operation;
+use model::Queue;
+use model::Receive;
 use model::Returned;
+use model::SendPart;
 use model::Table;
+use model::Thread;
+
+// No operation.
+fn no_operation() -> Operation
+    ensures { λ r. ⌜ r ≡ noOperation ⌝ }
+{
+    let send = SendPart {
+        present: false,
+        target: 0,
+        count: 0,
+        time: 0,
+        words: [0; 8],
+    };
+    Operation {
+        send: send,
+        receive: Receive::Absent,
+    }
+}
+
+// A thread of a new table.
+fn new_thread() -> Thread
+    ensures { λ r. ⌜ r ≡ newThread ⌝ }
+{
+    let queue = Queue {
+        items: [0; 32],
+        len: 0,
+    };
+    Thread {
+        flags: threads::no_flags(),
+        phase: actions::IDLE,
+        op: no_operation(),
+        left: 0,
+        queue: queue,
+        owner: threads::NOBODY,
+        outcome: threads::code_only(threads::NEVER_BEGUN),
+        copied: 0,
+        waking: 0,
+    }
+}
+
+// A new table of n threads.
+pub fn new_table(n: u8) -> Table
+    ensures { λ r. ⌜ r ≡ newTable n ⌝ }
+{
+    let h = new_thread();
+    let threads = [h; 32];
+    Table {
+        n: n,
+        threads: threads,
+    }
+}
+
+// The time code of an operation's first part.
+fn first_time(op: Operation) -> u8
+    ensures { λ r. ⌜ r ≡ firstTime op ⌝ }
+{
+    let send = op.send;
+    if send.present {
+        return send.time;
+    }
+    let receive = op.receive;
+    threads::receive_time(receive)
+}
+
+// The flags of a thread that begins an operation.
+fn begun_flags(op: Operation) -> Flags
+    ensures { λ r. ⌜ r ≡ begunFlags op ⌝ }
+{
+    let send = op.send;
+    let receive = op.receive;
+    Flags {
+        ipc: true,
+        send: send.present,
+        receiving: threads::has_receive(receive),
+        poll: false,
+        mark: false,
+    }
+}
+
+// A thread that begins an operation in a phase.
+pub fn begun_with(h: Thread, op: Operation, phase: u8) -> Thread
+    ensures { λ r. ⌜ ((p : Phase) → phase ≡ phaseNumber p → r ≡ begun op p h) ⌝ }
+{
+    let mut next = h;
+    next.flags = begun_flags(op);
+    next.phase = phase;
+    next.op = op;
+    next.left = threads::tick_count(first_time(op));
+    next.outcome = threads::code_only(threads::RUNNING);
+    next
+}
+
+// Thread x begins an operation.
+pub fn begin(table: Table, x: u8, op: Operation, store: &mut [u32]) -> Returned
+    requires { ⌜ Allowed (Call.begin x op) (state table (now store)) ⌝ }
+    ensures { λ r. ⌜ Promise (Call.begin x op) (state table (now (store .entry))) (r .answer) (state (r .table) (now (store .exit))) ⌝ }
+{
+    words::zero_thread(store, x);
+    let mut next = table;
+    let i = x as usize;
+    let send = op.send;
+    if send.present {
+        if table.n <= send.target {
+            let h = next.threads[i];
+            next.threads[i] = threads::end_with_code(h, threads::NO_RECEIVER);
+            return Returned {
+                answer: Answer::Accepted,
+                table: next,
+            };
+        }
+        let r = send.target as usize;
+        let target = next.threads[r];
+        next.threads[r] = queues::join(target, x);
+        let h = next.threads[i];
+        next.threads[i] = begun_with(h, op, actions::LOCK);
+        return Returned {
+            answer: Answer::Accepted,
+            table: next,
+        };
+    }
+    let h = next.threads[i];
+    next.threads[i] = begun_with(h, op, actions::LOOK);
+    Returned {
+        answer: Answer::Accepted,
+        table: next,
+    }
+}
 
 // The thread that a step of x reads and writes as the other one.
 fn other_or_own(o: u8, x: u8) -> u8
@@ -45,6 +181,46 @@ pub fn step(table: Table, x: u8, store: &mut [u32]) -> Returned
     next.threads[i] = mine;
     Returned {
         answer: answer,
+        table: next,
+    }
+}
+
+// Thread x's operation is to be cancelled.
+pub fn cancel(table: Table, x: u8) -> Returned
+    requires { ⌜ Allowed (Call.cancel x) (state table []) ⌝ }
+    ensures { λ r. ⌜ ((store : List ℕ) → Promise (Call.cancel x) (state table store) (r .answer) (state (r .table) store)) ⌝ }
+{
+    let mut next = table;
+    let i = x as usize;
+    let h = next.threads[i];
+    if h.flags.ipc {
+        next.threads[i] = threads::set_mark(h);
+        return Returned {
+            answer: Answer::Marked,
+            table: next,
+        };
+    }
+    Returned {
+        answer: Answer::NothingToCancel,
+        table: next,
+    }
+}
+
+// Time passes for every running operation.
+pub fn tick(table: Table) -> Returned
+    requires { ⌜ Allowed Call.tick (state table []) ⌝ }
+    ensures { λ r. ⌜ ((store : List ℕ) → Promise Call.tick (state table store) (r .answer) (state (r .table) store)) ⌝ }
+{
+    let n = table.n as usize;
+    let mut next = table;
+    let mut i: usize = 0;
+    while i < n {
+        let h = next.threads[i];
+        next.threads[i] = threads::tick_thread(h);
+        i += 1;
+    }
+    Returned {
+        answer: Answer::Accepted,
         table: next,
     }
 }

@@ -1,0 +1,97 @@
+-- A table that is checked once needs no check again: every call leaves a checked table, and from one the cheap tests alone show that a call may run.
+use mathlib.Core.Path.{_≡_, refl, ap, _∙_}
+use mathlib.Core.Bool.{true, false, not}
+use mathlib.Core.List.{List, [], _∷_, _++_}
+use Prim.Native.Nat.{ℕ, _*_, _≤_, _<_}
+use lib.ListN.{length}
+use lib.Dec.{leb}
+use borrow.Author.Tests.{leb-true, lt-leb, eq-eqb}
+use Rattle.model.specs.declared.Operation.{Operation}
+use Rattle.model.specs.Threads.{newTable, at, lockFree}
+use Rattle.model.specs.WellFormed.{sizeInRange, WellFormed}
+use Rattle.model.specs.Calls.{Call, begin, step, cancel, tick, State}
+use Rattle.model.specs.Refusals.{Row, firstRefusal, unless, badSize, notWellFormed, noThread, badLength, lockOwned, notIdle, neitherPart, withItself, noPartner, tooManyWords, badTime, threadAndStoreRows, rowsOf, refusal, makeRefusal}
+use Rattle.model.specs.Promise.{madeTable, next}
+use Rattle.model.proofs.Laws.{and-right, _and_}
+use Rattle.model.proofs.Tested.{well-formed-tested, well-formed-told}
+use Rattle.laws.proofs.Refusals.{NoneHolds}
+use Rattle.invariant.proofs.New.{new-size, new-shaped, made-well-formed}
+use Rattle.invariant.proofs.Keeps.{keeps-shaped, keeps-test}
+use Rattle.core.specs.Allowed.{Allowed, Checked}
+
+-- ---- checked tables
+module _ (n : ℕ) (made : makeRefusal n ≡ 0) where
+  -- a new table of a lawful size is well-formed
+  new-formed : WellFormed (newTable n)
+  unfolding madeTable unless
+  new-formed = rw made at (made-well-formed n made)
+
+  -- it has at most 32 threads
+  new-few : n ≤ 32
+  unfolding sizeInRange
+  new-few = leb-true n 32 (and-right (leb 1 n) (leb n 32) (rw (new-size n) at (new-formed .size)))
+
+  -- so it counts as checked
+  pub new-checked : Checked (newTable n)
+  new-checked = record { formed = well-formed-tested (newTable n) new-formed; shaped = new-shaped n new-few }
+
+-- every call, refused or not, leaves a checked table where it found one
+pub keeps-checked : (c : Call) (s : State) → Checked (s .table) → Checked (next c s .table)
+keeps-checked c s k = record { formed = keeps-test c s (k .shaped) (k .formed); shaped = keeps-shaped c s (k .shaped) }
+
+-- ---- rows of refusal
+-- rows that do not hold are passed over
+pub rows-passed : (passed rest : List Row) → NoneHolds passed → firstRefusal (passed ++ rest) ≡ firstRefusal rest
+unfolding firstRefusal
+rows-passed [] rest out = refl
+rows-passed (row ∷ passed) rest out = rw (out .0) (rows-passed passed rest (out .1))
+
+-- ---- what the cheap tests give, where the table is checked
+module _ (s : State) (k : Checked (s .table)) where
+  -- the row on the size does not hold
+  size-passed : badSize (s .table .n) .when ≡ false
+  unfolding badSize
+  size-passed = ap not (well-formed-told (s .table) (k .formed) .size)
+
+  -- nor the row of the check
+  formed-passed : notWellFormed (s .table) .when ≡ false
+  unfolding notWellFormed
+  formed-passed = ap not (k .formed)
+
+  -- a call may run where the rows after those that are passed refuse nothing
+  allowed-by : (c : Call) (passed rest : List Row) → rowsOf c s ≡ passed ++ rest → NoneHolds passed → firstRefusal rest ≡ 0 → Allowed c s
+  unfolding refusal
+  allowed-by c passed rest all out e = record { shaped = k .shaped; accepted = ap firstRefusal all ∙ rows-passed passed rest out ∙ e }
+
+  -- a tick may run
+  pub tick-allowed : Allowed tick s
+  unfolding rowsOf firstRefusal
+  tick-allowed = allowed-by tick (rowsOf tick s) [] refl (size-passed and formed-passed and tt) refl
+
+module _ (x : ℕ) (s : State) (k : Checked (s .table)) (below : x < s .table .n) where
+  -- the row on the thread's number does not hold
+  thread-passed : noThread (s .table) x .when ≡ false
+  unfolding noThread
+  thread-passed = lt-leb (s .table .n) x below
+
+  -- a cancel of a thread whose lock is free may run
+  pub cancel-allowed : lockFree (at (s .table) x) ≡ true → Allowed (cancel x) s
+  unfolding rowsOf firstRefusal lockOwned
+  cancel-allowed unowned = allowed-by s k (cancel x) (rowsOf (cancel x) s) [] refl (size-passed s k and formed-passed s k and thread-passed and ap not unowned and tt) refl
+
+  -- the rows on the table, the thread and the store do not hold
+  places-passed : length (s .store) ≡ 8 * s .table .n → NoneHolds (threadAndStoreRows s x)
+  unfolding threadAndStoreRows badLength
+  places-passed fit = size-passed s k and formed-passed s k and thread-passed and ap not (eq-eqb (length (s .store)) (8 * s .table .n) fit) and tt
+
+  -- a step may run
+  pub step-allowed : length (s .store) ≡ 8 * s .table .n → Allowed (step x) s
+  unfolding rowsOf threadAndStoreRows firstRefusal
+  step-allowed fit = allowed-by s k (step x) (threadAndStoreRows s x) [] refl (places-passed fit) refl
+
+-- a begin may run where none of the rows on the thread's state and the operation holds
+pub begin-allowed : (x : ℕ) (o : Operation) (s : State) → Checked (s .table) → x < s .table .n → length (s .store) ≡ 8 * s .table .n
+    → firstRefusal (lockOwned (s .table) x ∷ notIdle (s .table) x ∷ neitherPart o ∷ withItself x o ∷ noPartner (s .table) o ∷ tooManyWords o ∷ badTime o ∷ []) ≡ 0
+    → Allowed (begin x o) s
+unfolding rowsOf threadAndStoreRows
+begin-allowed x o s k below fit e = allowed-by s k (begin x o) (threadAndStoreRows s x) _ refl (places-passed x s k below fit) e

@@ -1,0 +1,11 @@
+use mathlib.Core.Path.{refl}
+use Rattle.model.specs.Threads.{noOperation}
+use Rattle.core.proofs.no_operation.Statement.{statement}
+use Rattle.core.proofs.no_operation.Tie as tie
+
+returns : tie.Need-returns
+unfolding noOperation
+returns c = refl
+
+pub no-operation-spec : {M : Type 1} → statement M
+no-operation-spec = tie.close (tie.spec returns)
