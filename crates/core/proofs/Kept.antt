@@ -14,7 +14,7 @@ use Rattle.model.specs.Refusals.{Row, firstRefusal, unless, badSize, notWellFor
 use Rattle.model.specs.Promise.{madeTable, next}
 use Rattle.model.proofs.Laws.{and-right, _and_}
 use Rattle.model.proofs.Tested.{well-formed-tested, well-formed-told}
-use Rattle.laws.proofs.Refusals.{NoneHolds}
+use Rattle.laws.proofs.Rows.{NoneHolds, rows-passed}
 use Rattle.invariant.proofs.New.{new-size, new-shaped, made-well-formed}
 use Rattle.invariant.proofs.Keeps.{keeps-shaped, keeps-test}
 use Rattle.core.specs.Allowed.{Allowed, Checked}
@@ -38,13 +38,6 @@ module _ (n : ℕ) (made : makeRefusal n ≡ 0) where
 -- every call, refused or not, leaves a checked table where it found one
 pub keeps-checked : (c : Call) (s : State) → Checked (s .table) → Checked (next c s .table)
 keeps-checked c s k = record { formed = keeps-test c s (k .shaped) (k .formed); shaped = keeps-shaped c s (k .shaped) }
-
--- ---- rows of refusal
--- rows that do not hold are passed over
-pub rows-passed : (passed rest : List Row) → NoneHolds passed → firstRefusal (passed ++ rest) ≡ firstRefusal rest
-unfolding firstRefusal
-rows-passed [] rest out = refl
-rows-passed (row ∷ passed) rest out = rw (out .0) (rows-passed passed rest (out .1))
 
 -- ---- what the cheap tests give, where the table is checked
 module _ (s : State) (k : Checked (s .table)) where

@@ -1,24 +1,23 @@
 -- A step on two threads of a table and a slice of the store is the step of the table and the store.
 use mathlib.Core.Path.{_≡_, refl, sym, _∙_, ap, subst}
 use mathlib.Core.Logic.{_≢_, _⊎_, inl, inr, ⊎-elim}
-use mathlib.Core.Bool.{true, false, cond}
+use mathlib.Core.Bool.{true, cond}
 use mathlib.Core.Option.{Option, none, some, Option·getD}
 use mathlib.Core.List.{List}
 use Prim.Native.Nat.{ℕ, _+_, _-_, _*_, _≤_, _<_}
 use native.Mathlib.Omega.{arith}
 use lib.ListN.{length, getD, set}
-use lib.Seq.{set-out, set-set}
-use lib.Dec.{eqb, ltb}
+use lib.Dec.{ltb}
 use borrow.Author.Tests.{eq-eqb, ne-eqb, ltb-true, ltb-false}
 use borrow.Rule.Slice.PartMut.{midOf, putMid, put-same, set-mid-at, mid-len}
 use Rattle.model.specs.declared.Thread.{Thread}
 use Rattle.model.specs.declared.Table.{Table}
 use Rattle.model.specs.declared.Answer.the-variants.{Held}
-use Rattle.model.specs.Answers.{held, replied, said}
+use Rattle.model.specs.Answers.{held, replied}
 use Rattle.model.specs.Shared.{receiveCancelled, nobody, hasReceive}
 use Rattle.model.specs.Threads.{Phase, idle, lock, check, copy, release, sleep, look, wake, unlock, unknown, phaseOf, phaseNumber, at, put, lockFree, findSender}
-use Rattle.model.specs.Step.{Action, abortReceive, toIdle, copyWord, finishCall, finishSend, stay, other, lookAt, decideIn, decide, replyOf, ownAfter, otherAfter, act, wordCopied, storeAfter}
-use Rattle.model.specs.Calls.{Call, step, State, acceptedReply, acceptedState}
+use Rattle.model.specs.Step.{Action, abortReceive, toIdle, copyWord, stay, other, lookAt, decideIn, decide, replyOf, ownAfter, otherAfter, act, wordCopied, storeAfter}
+use Rattle.model.specs.Calls.{step, State, acceptedReply, acceptedState}
 use Rattle.model.specs.Promise.{Promise, state}
 use Rattle.model.proofs.Laws.{by, same?}
 use Rattle.laws.proofs.Lists.{cond-true, cond-false}

@@ -1,22 +1,28 @@
--- Which number a call is refused by, group of rows by group, and that a refused call keeps its promise.
+-- A refused call keeps its promise, group of rows by group; and what a call that passes a group may rely on.
 use mathlib.Core.Path.{_≡_, refl, sym, _∙_, ap}
 use mathlib.Core.Logic.{_≢_}
-use mathlib.Core.Bool.{true}
+use mathlib.Core.Bool.{true, not}
 use mathlib.Core.List.{List, [], _∷_, _++_}
-use Prim.Native.Nat.{ℕ, zero, suc}
-use native.Mathlib.Omega.{arith}
+use Prim.Native.Nat.{ℕ, suc, _*_, _≤_, _<_}
 use lib.ListN.{length}
+use lib.Dec.{eqb, leb}
+use borrow.Author.Tests.{leb-true, leb-false, le-leb, lt-leb, eqb-true, eq-eqb, ne-eqb, not-false}
 use Rattle.model.specs.declared.Operation.{Operation}
 use Rattle.model.specs.declared.Answer.the-variants.{Refused}
 use Rattle.model.specs.declared.Table.{Table}
+use Rattle.model.specs.Shared.{nobody}
+use Rattle.model.specs.Threads.{at, lockFree}
+use Rattle.model.specs.WellFormed.{sizeInRange, wellFormed}
 use Rattle.model.specs.Calls.{Call, begin, step, cancel, tick, State}
-use Rattle.model.specs.Refusals.{Row, firstRefusal, badSize, notWellFormed, noThread, badLength, lockOwned, notIdle, neitherPart, withItself, noPartner, tooManyWords, badTime, threadAndStoreRows, rowsOf, refusal}
+use Rattle.model.specs.Refusals.{Row, firstRefusal, badSize, notWellFormed, noThread, badLength, lockOwned, threadAndStoreRows, rowsOf, refusal}
 use Rattle.model.specs.Promise.{Promise}
+use Rattle.model.proofs.Laws.{and-right}
 use Rattle.laws.proofs.Lists.{zero-or-not}
+use Rattle.laws.proofs.Rows.{none-holds, first-here, first-later, group-refuses, group-passes}
 use Rattle.laws.proofs.Calls.{refused-next, refused-answer}
-use Rattle.laws.proofs.Refusals.{numbered}
-use Rattle.refusals.specs.Rows.{tableRows, placeRows, threadRows, operationRows}
-use Rattle.refusals.proofs.Laws.{first-of-next, first-of-group}
+use Rattle.refusals.specs.Rows.{tableRows, placeRows, threadRows, operationRows, beginRows}
+use Rattle.core.specs.Allowed.{Checked}
+use Rattle.engine.specs.Tables.{RefusesTable}
 
 -- a call that is refused by a number answers it and changes nothing
 pub refused-promise : (c : Call) (s : State) (g : ℕ) → g ≡ refusal c s → g ≢ 0 → Promise c s (Refused g) s
@@ -24,11 +30,81 @@ refused-promise c s g e d = zero-or-not g (λ z. absurd (d z)) (λ k is.
     let r : refusal c s ≡ suc k = sym e ∙ is in
     record { answers = rw is (sym (refused-answer c s k r)); leaves = sym (refused-next c s k r) })
 
--- ---- a list of rows in groups
--- a number of the first group that is not 0 is that of the whole
-pub group-refuses : (a b : List Row) (g : ℕ) → g ≡ firstRefusal a → g ≢ 0 → g ≡ firstRefusal (a ++ b)
-group-refuses a b g e d = zero-or-not g (λ z. absurd (d z)) (λ k is. is ∙ sym (first-of-group a b k (sym e ∙ is)))
+-- ---- the rows on the table
+-- the rows of a call after those on the table
+abbrev pub laterRows : Call → State → List Row
+laterRows (begin x o) s = placeRows (s .table) x (length (s .store)) ++ beginRows (s .table) x o
+laterRows (step x) s = placeRows (s .table) x (length (s .store))
+laterRows (cancel x) s = noThread (s .table) x ∷ lockOwned (s .table) x ∷ []
+laterRows tick s = []
 
--- where it is 0, the others decide
-pub group-passes : (a b : List Row) (f g : ℕ) → numbered a ≡ true → f ≡ firstRefusal a → f ≡ 0 → g ≡ firstRefusal b → g ≡ firstRefusal (a ++ b)
-group-passes a b f g k e z h = h ∙ sym (first-of-next a b k (sym e ∙ z))
+-- every call has these rows
+rows-in-groups : (c : Call) (s : State) → tableRows (s .table) ++ laterRows c s ≡ rowsOf c s
+unfolding rowsOf threadAndStoreRows tableRows placeRows threadRows operationRows beginRows
+rows-in-groups (begin x o) s = refl
+rows-in-groups (step x) s = refl
+rows-in-groups (cancel x) s = refl
+rows-in-groups tick s = refl
+
+module _ (c : Call) (s : State) (f : ℕ) (rows : RefusesTable (s .table) f) where
+  -- a call is refused by the first row on the table that holds
+  pub table-refuses : f ≢ 0 → Promise c s (Refused f) s
+  unfolding refusal
+  table-refuses d = refused-promise c s f (group-refuses (tableRows (s .table)) (laterRows c s) f (rows .tells) d ∙ ap firstRefusal (rows-in-groups c s)) d
+
+  -- where none holds, by the first of the others
+  pub later-number : f ≡ 0 → (g : ℕ) → g ≡ firstRefusal (laterRows c s) → g ≡ refusal c s
+  unfolding refusal tableRows badSize notWellFormed
+  later-number z g e = group-passes (tableRows (s .table)) (laterRows c s) f g refl (rows .tells) z e ∙ ap firstRefusal (rows-in-groups c s)
+
+  -- and answers its number
+  pub later-refuses : f ≡ 0 → (g : ℕ) → g ≡ firstRefusal (laterRows c s) → g ≢ 0 → Promise c s (Refused g) s
+  later-refuses z g e d = refused-promise c s g (later-number z g e) d
+
+-- a table on which no row holds has passed the check
+pub table-checked : (t : Table) (f : ℕ) → RefusesTable t f → f ≡ 0 → Checked t
+unfolding tableRows badSize notWellFormed
+table-checked t f rows z = record {
+  formed = not-false (wellFormed t) (none-holds (tableRows t) refl (sym (rows .tells) ∙ z) .1 .0);
+  shaped = rows .shaped z;
+}
+
+-- and at most 32 threads
+pub table-few : (t : Table) (f : ℕ) → RefusesTable t f → f ≡ 0 → t .n ≤ 32
+unfolding tableRows badSize notWellFormed sizeInRange
+table-few t f rows z = leb-true (t .n) 32 (and-right (leb 1 (t .n)) (leb (t .n) 32) (not-false (sizeInRange (t .n)) (none-holds (tableRows t) refl (sym (rows .tells) ∙ z) .0)))
+
+-- ---- the rows on a thread's number and the length of a store
+module _ (t : Table) (x words g : ℕ) (e : g ≡ firstRefusal (placeRows t x words)) (z : g ≡ 0) where
+  -- where none holds, the thread is in the table
+  pub place-below : x < t .n
+  unfolding placeRows noThread badLength
+  place-below = leb-false (t .n) x (none-holds (placeRows t x words) refl (sym e ∙ z) .0)
+
+  -- and the store has eight words for each thread
+  pub place-store : words ≡ 8 * t .n
+  unfolding placeRows noThread badLength
+  place-store = eqb-true words (8 * t .n) (not-false (eqb words (8 * t .n)) (none-holds (placeRows t x words) refl (sym e ∙ z) .1 .0))
+
+-- ---- the rows of a begin
+module _ (x : ℕ) (o : Operation) (s : State) where
+  -- the rows on the place come first
+  pub place-before-begin : (g : ℕ) → g ≡ firstRefusal (placeRows (s .table) x (length (s .store))) → g ≢ 0 → g ≡ firstRefusal (laterRows (begin x o) s)
+  place-before-begin g e d = group-refuses (placeRows (s .table) x (length (s .store))) (beginRows (s .table) x o) g e d
+
+  -- then those on the thread and the operation
+  pub begin-after-place : (f g : ℕ) → f ≡ firstRefusal (placeRows (s .table) x (length (s .store))) → f ≡ 0 → g ≡ firstRefusal (beginRows (s .table) x o) → g ≡ firstRefusal (laterRows (begin x o) s)
+  unfolding placeRows noThread badLength
+  begin-after-place f g e z h = group-passes (placeRows (s .table) x (length (s .store))) (beginRows (s .table) x o) f g refl e z h
+
+-- ---- the rows of a cancel
+module _ (x : ℕ) (s : State) where
+  -- the thread's number comes first
+  pub cancel-no-thread : s .table .n ≤ x → 3 ≡ firstRefusal (laterRows (cancel x) s)
+  unfolding noThread
+  cancel-no-thread h = sym (first-here _ _ (le-leb (s .table .n) x h))
+
+  -- then its lock
+  pub cancel-lock-owned : x < s .table .n → at (s .table) x .owner ≢ nobody → 4 ≡ firstRefusal (laterRows (cancel x) s)
+  unfolding noThread lockOwned lockFree
+  cancel-lock-owned h d = sym (first-later _ _ (lt-leb (s .table .n) x h) ∙ first-here _ _ (ap not (ne-eqb (at (s .table) x .owner) nobody d)))

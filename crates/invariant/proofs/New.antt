@@ -15,7 +15,7 @@ use Rattle.model.specs.WellFormed.{sizeInRange, inPhase, isCode, nobodyOrBelow,
 use Rattle.model.specs.Refusals.{unless, badSize, makeRefusal}
 use Rattle.model.specs.Promise.{madeTable}
 use Rattle.model.proofs.Laws.{by, and-left, and-right, and-made}
-use Rattle.laws.proofs.Refusals.{none-holds}
+use Rattle.laws.proofs.Rows.{none-holds}
 
 -- a new table of n threads has n threads
 pub new-size : (n : ℕ) → newTable n .n ≡ n

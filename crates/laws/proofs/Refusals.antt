@@ -1,13 +1,12 @@
 -- What a call that is not refused has been tested for.
 use mathlib.Core.Path.{_≡_, refl}
 use mathlib.Core.Logic.{_≢_}
-use mathlib.Core.Bool.{Bool, true, false, not, _&&_, _||_}
-use mathlib.Core.List.{List, [], _∷_}
+use mathlib.Core.Bool.{true, false, not, _&&_, _||_}
+use mathlib.Core.List.{[], _∷_}
 use Prim.Native.Nat.{ℕ, _*_, _≤_, _<_}
-use native.Mathlib.Omega.{arith}
 use lib.ListN.{length}
 use lib.Dec.{eqb, leb, ltb}
-use borrow.Author.Tests.{ltb-true, ltb-false, leb-false, le-leb, lt-ltb, eqb-true, eqb-false, not-false}
+use borrow.Author.Tests.{ltb-false, leb-false, le-leb, lt-ltb, eqb-true, eqb-false, not-false}
 use Rattle.model.specs.declared.Receive.{Receive}
 use Rattle.model.specs.declared.Receive.the-variants.{Absent, Open, Closed}
 use Rattle.model.specs.declared.Operation.{Operation}
@@ -15,30 +14,11 @@ use Rattle.model.specs.Shared.{wordLimit, isTimeCode, hasReceive, receiveTime, 
 use Rattle.model.specs.Threads.{idle, phaseOf, at, lockFree}
 use Rattle.model.specs.WellFormed.{inPhase, sendInRange, receiveInRange, wellFormed}
 use Rattle.model.specs.Calls.{Call, begin, step, cancel, tick, State}
-use Rattle.model.specs.Refusals.{Row, firstRefusal, badSize, notWellFormed, noThread, badLength, lockOwned, notIdle, neitherPart, withItself, closedBeyond, noPartner, tooManyWords, badTime, threadAndStoreRows, rowsOf, refusal, outcomeRefusal}
-use Rattle.model.proofs.Laws.{by, and-left, and-right, implies-made, _and_, all-of-made}
+use Rattle.model.specs.Refusals.{badSize, notWellFormed, noThread, badLength, lockOwned, notIdle, neitherPart, withItself, closedBeyond, noPartner, tooManyWords, badTime, threadAndStoreRows, rowsOf, refusal, outcomeRefusal}
+use Rattle.model.proofs.Laws.{implies-made, _and_, all-of-made}
+use Rattle.laws.proofs.Rows.{numbered, NoneHolds, none-holds}
 use Rattle.laws.proofs.Phases.{in-idle}
 use Rattle.laws.proofs.Lists.{or-left, or-right, second-fails}
-
--- ---- a list of rows
--- no row has number 0
-abbrev pub numbered : List Row → Bool
-numbered [] = true
-numbered (row ∷ rows) = ltb 0 (row .number) && numbered rows
-
--- no row holds
-abbrev pub NoneHolds : List Row → Type 0
-NoneHolds [] = Unit {0}
-NoneHolds (row ∷ rows) = (row .when ≡ false) × NoneHolds rows
-
--- where the refusal is 0, no row holds
-pub none-holds : (rows : List Row) → numbered rows ≡ true → firstRefusal rows ≡ 0 → NoneHolds rows
-unfolding firstRefusal
-none-holds [] k e = tt
-none-holds (row ∷ rows) k e =
-    by (row .when)
-    (λ i. let z : row .number ≡ 0 = rw i at e in absurd (let l : 0 < row .number = ltb-true 0 (row .number) (and-left (ltb 0 (row .number)) (numbered rows) k) in omega arith))
-    (λ i. (i, none-holds rows (and-right (ltb 0 (row .number)) (numbered rows) k) (rw i at e)))
 
 -- the rows of every call have numbers
 rows-numbered : (c : Call) (s : State) → numbered (rowsOf c s) ≡ true

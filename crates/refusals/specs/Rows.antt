@@ -1,10 +1,9 @@
--- The rows of refusal in the groups in which the code tests them, and what it promises of a number.
+-- The rows of refusal in the groups in which the code tests them.
 use mathlib.Core.Path.{_≡_}
-use mathlib.Core.List.{List, [], _∷_}
+use mathlib.Core.List.{List, [], _∷_, _++_}
 use Prim.Native.Nat.{ℕ, _*_}
 use lib.ListN.{length}
 use Rattle.model.specs.declared.Operation.{Operation}
-use Rattle.model.specs.declared.Thread.{Thread}
 use Rattle.model.specs.declared.Table.{Table}
 use Rattle.model.specs.WellFormed.{Shaped}
 use Rattle.model.specs.Calls.{Call}
@@ -27,12 +26,6 @@ threadRows t x = lockOwned t x ∷ notIdle t x ∷ []
 unfoldable pub operationRows : Table → ℕ → Operation → List Row
 operationRows t x o = neitherPart o ∷ withItself x o ∷ noPartner t o ∷ tooManyWords o ∷ badTime o ∷ []
 
--- the number by which call c is refused, where it is given a store of so many words; a table that is not refused has its arrays whole
-pub record Refuses (c : Call) (t : Table) (words number : ℕ) : Type 0 where
-  pub tells : (store : List ℕ) → length store ≡ words → number ≡ refusal c (state t store)
-  pub shaped : number ≡ 0 → Shaped t
-
--- the same of the rows on the table alone
-pub record RefusesTable (t : Table) (number : ℕ) : Type 0 where
-  pub tells : number ≡ firstRefusal (tableRows t)
-  pub shaped : number ≡ 0 → Shaped t
+-- the rows of a begin that come after those: on its thread and its operation
+unfoldable pub beginRows : Table → ℕ → Operation → List Row
+beginRows t x o = threadRows t x ++ operationRows t x o

@@ -2,12 +2,12 @@
 ghost use mathlib.Core.Path.{_≡_};
 ghost use mathlib.Core.Bool.{not, _&&_, _||_};
 ghost use Prim.Native.Nat.{ℕ};
-ghost use lib.Dec.{eqb, leb, ltb};
+ghost use lib.Dec.{eqb, ltb};
 ghost use Rattle.model.specs.declared.Table.{Table};
 ghost use Rattle.model.specs.Shared.{wordLimit, isTimeCode, hasReceive, receiveTime, closedOn};
 ghost use Rattle.model.specs.Threads.{at};
 ghost use Rattle.model.specs.Refusals.{firstRefusal, closedBeyond, makeRefusal};
-ghost use Rattle.refusals.specs.Rows.{placeRows, threadRows, operationRows};
+ghost use Rattle.refusals.specs.Rows.{placeRows, threadRows, operationRows, beginRows};
 use model::Operation;
 use model::Receive;
 use model::SendPart;
@@ -161,4 +161,15 @@ pub fn place_refusal(n: u8, x: u8, words: usize) -> u8
         return 11;
     }
     0
+}
+
+// The rows of a begin on its thread, which is h, and its operation.
+pub fn begin_refusal(n: u8, x: u8, h: Thread, op: Operation) -> u8
+    ensures { λ r. ⌜ ((t : Table) → t .n ≡ n → at t x ≡ h → r ≡ firstRefusal (beginRows t x op)) ⌝ }
+{
+    let first = thread_refusal(h);
+    if first != 0 {
+        return first;
+    }
+    operation_refusal(n, x, op)
 }

@@ -1,7 +1,7 @@
 use mathlib.Core.Path.{sym, _∙_, ap}
 use borrow.Author.Needs.{needs}
 use Rattle.model.specs.Refusals.{neitherPart, withItself, noPartner, closedBeyond, tooManyWords, badTime}
-use Rattle.refusals.proofs.Laws.{first-none, first-here, first-later}
+use Rattle.laws.proofs.Rows.{first-none, first-here, first-later}
 use Rattle.refusals.specs.Rows.{operationRows}
 use Rattle.refusals.proofs.operation_refusal.Statement.{statement}
 use Rattle.refusals.proofs.operation_refusal.Tie as tie

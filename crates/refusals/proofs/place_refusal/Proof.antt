@@ -5,7 +5,7 @@ use native.Mathlib.Omega.{arith}
 use borrow.Author.Needs.{needs}
 use borrow.Author.Tests.{le-leb, lt-leb, eq-eqb, ne-eqb}
 use Rattle.model.specs.Refusals.{noThread, badLength}
-use Rattle.refusals.proofs.Laws.{first-none, first-here, first-later}
+use Rattle.laws.proofs.Rows.{first-none, first-here, first-later}
 use Rattle.refusals.specs.Rows.{placeRows}
 use Rattle.refusals.proofs.place_refusal.Statement.{statement}
 use Rattle.refusals.proofs.place_refusal.Tie as tie

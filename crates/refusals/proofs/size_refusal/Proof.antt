@@ -1,7 +1,8 @@
 use mathlib.Core.List.{[]}
 use mathlib.Core.Path.{sym}
 use Rattle.model.specs.Refusals.{makeRefusal, badSize, firstRefusal}
-use Rattle.refusals.proofs.Laws.{first-here, first-later, size-none, size-above, size-right}
+use Rattle.laws.proofs.Rows.{first-here, first-later}
+use Rattle.refusals.proofs.Laws.{size-none, size-above, size-right}
 use Rattle.refusals.proofs.size_refusal.Statement.{statement}
 use Rattle.refusals.proofs.size_refusal.Tie as tie
 

@@ -5,7 +5,7 @@ use Rattle.model.specs.Refusals.{lockOwned, notIdle}
 use Rattle.model.specs.Threads.{lockFree}
 use Rattle.model.specs.WellFormed.{inPhase}
 use Rattle.model.specs.declared.Thread.{Thread}
-use Rattle.refusals.proofs.Laws.{first-none, first-here, first-later}
+use Rattle.laws.proofs.Rows.{first-none, first-here, first-later}
 use Rattle.refusals.specs.Rows.{threadRows}
 use Rattle.refusals.proofs.thread_refusal.Statement.{statement}
 use Rattle.refusals.proofs.thread_refusal.Tie as tie
