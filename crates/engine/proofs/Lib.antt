@@ -1,1 +1,3 @@
 pub mod Refused
+pub mod Shown
+pub mod Reports

@@ -1,26 +1,29 @@
 -- A refused call keeps its promise, group of rows by group; and what a call that passes a group may rely on.
-use mathlib.Core.Path.{_≡_, refl, sym, _∙_, ap}
+use mathlib.Core.Path.{_≡_, refl, sym, _∙_, ap, subst}
 use mathlib.Core.Logic.{_≢_}
-use mathlib.Core.Bool.{true, not}
+use mathlib.Core.Bool.{Bool, true, false, not}
 use mathlib.Core.List.{List, [], _∷_, _++_}
 use Prim.Native.Nat.{ℕ, suc, _*_, _≤_, _<_}
+use native.Mathlib.Omega.{arith}
 use lib.ListN.{length}
 use lib.Dec.{eqb, leb}
 use borrow.Author.Tests.{leb-true, leb-false, le-leb, lt-leb, eqb-true, eq-eqb, ne-eqb, not-false}
 use Rattle.model.specs.declared.Operation.{Operation}
 use Rattle.model.specs.declared.Answer.the-variants.{Refused}
 use Rattle.model.specs.declared.Table.{Table}
+use Rattle.model.specs.declared.Returned.{Returned}
 use Rattle.model.specs.Shared.{nobody}
 use Rattle.model.specs.Threads.{at, lockFree}
 use Rattle.model.specs.WellFormed.{sizeInRange, wellFormed}
 use Rattle.model.specs.Calls.{Call, begin, step, cancel, tick, State}
-use Rattle.model.specs.Refusals.{Row, firstRefusal, badSize, notWellFormed, noThread, badLength, lockOwned, threadAndStoreRows, rowsOf, refusal}
-use Rattle.model.specs.Promise.{Promise}
+use Rattle.model.specs.Refusals.{Row, firstRefusal, badSize, notWellFormed, noThread, badLength, lockOwned, threadAndStoreRows, rowsOf, refusal, makeRefusal, reportRefusal}
+use Rattle.model.specs.Promise.{state, Promise}
 use Rattle.model.proofs.Laws.{and-right}
 use Rattle.laws.proofs.Lists.{zero-or-not}
-use Rattle.laws.proofs.Rows.{none-holds, first-here, first-later, group-refuses, group-passes}
+use Rattle.laws.proofs.Rows.{none-holds, first-none, first-here, first-later, group-refuses, group-passes}
 use Rattle.laws.proofs.Calls.{refused-next, refused-answer}
 use Rattle.refusals.specs.Rows.{tableRows, placeRows, threadRows, operationRows, beginRows}
+use Rattle.wellformed.specs.Verdict.{Verdict}
 use Rattle.core.specs.Allowed.{Checked}
 use Rattle.engine.specs.Tables.{RefusesTable}
 
@@ -29,6 +32,11 @@ pub refused-promise : (c : Call) (s : State) (g : ℕ) → g ≡ refusal c s →
 refused-promise c s g e d = zero-or-not g (λ z. absurd (d z)) (λ k is.
     let r : refusal c s ≡ suc k = sym e ∙ is in
     record { answers = rw is (sym (refused-answer c s k r)); leaves = sym (refused-next c s k r) })
+
+-- what is returned by a refused call
+pub refused-as : {c : Call} {t : Table} {store : List ℕ} {g : ℕ} (r : Returned) → r ≡ record { answer = Refused g; table = t } → Promise c (state t store) (Refused g) (state t store)
+    → Promise c (state t store) (r .answer) (state (r .table) store)
+refused-as {c} {t} {store} r e = subst (λ (r : Returned). Promise c (state t store) (r .answer) (state (r .table) store)) (sym e)
 
 -- ---- the rows on the table
 -- the rows of a call after those on the table
@@ -48,9 +56,13 @@ rows-in-groups tick s = refl
 
 module _ (c : Call) (s : State) (f : ℕ) (rows : RefusesTable (s .table) f) where
   -- a call is refused by the first row on the table that holds
-  pub table-refuses : f ≢ 0 → Promise c s (Refused f) s
+  pub table-number : f ≢ 0 → f ≡ refusal c s
   unfolding refusal
-  table-refuses d = refused-promise c s f (group-refuses (tableRows (s .table)) (laterRows c s) f (rows .tells) d ∙ ap firstRefusal (rows-in-groups c s)) d
+  table-number d = group-refuses (tableRows (s .table)) (laterRows c s) f (rows .tells) d ∙ ap firstRefusal (rows-in-groups c s)
+
+  -- and answers its number
+  pub table-refuses : f ≢ 0 → Promise c s (Refused f) s
+  table-refuses d = refused-promise c s f (table-number d) d
 
   -- where none holds, by the first of the others
   pub later-number : f ≡ 0 → (g : ℕ) → g ≡ firstRefusal (laterRows c s) → g ≡ refusal c s
@@ -60,6 +72,29 @@ module _ (c : Call) (s : State) (f : ℕ) (rows : RefusesTable (s .table) f) whe
   -- and answers its number
   pub later-refuses : f ≡ 0 → (g : ℕ) → g ≡ firstRefusal (laterRows c s) → g ≢ 0 → Promise c s (Refused g) s
   later-refuses z g e d = refused-promise c s g (later-number z g e) d
+
+-- ---- the check
+module _ (t : Table) (size : ℕ) (sized : size ≡ makeRefusal (t .n)) where
+  -- the row on the size holds
+  pub size-refuses : size ≢ 0 → RefusesTable t size
+  unfolding tableRows makeRefusal
+  size-refuses d = record { tells = group-refuses (badSize (t .n) ∷ []) (notWellFormed t ∷ []) size sized d; shaped = λ z. absurd (d z) }
+
+  module _ (fits : size ≡ 0) (well : Bool) (verdict : Verdict t well) where
+    -- the row on well-formed tables decides
+    checked-number : (g : ℕ) → g ≡ firstRefusal (notWellFormed t ∷ []) → g ≡ firstRefusal (tableRows t)
+    unfolding tableRows makeRefusal badSize
+    checked-number g e = group-passes (badSize (t .n) ∷ []) (notWellFormed t ∷ []) size g refl sized fits e
+
+    -- it holds
+    pub check-refuses : well ≡ false → RefusesTable t 2
+    unfolding notWellFormed
+    check-refuses e = record { tells = checked-number 2 (sym (first-here _ _ (ap not (sym (verdict .tells) ∙ e)))); shaped = λ z. absurd (omega arith) }
+
+    -- it does not
+    pub check-passes : well ≡ true → RefusesTable t 0
+    unfolding notWellFormed
+    check-passes e = record { tells = checked-number 0 (sym (first-later _ _ (ap not (sym (verdict .tells) ∙ e)) ∙ first-none)); shaped = λ z. verdict .shaped e }
 
 -- a table on which no row holds has passed the check
 pub table-checked : (t : Table) (f : ℕ) → RefusesTable t f → f ≡ 0 → Checked t
@@ -108,3 +143,26 @@ module _ (x : ℕ) (s : State) where
   pub cancel-lock-owned : x < s .table .n → at (s .table) x .owner ≢ nobody → 4 ≡ firstRefusal (laterRows (cancel x) s)
   unfolding noThread lockOwned lockFree
   cancel-lock-owned h d = sym (first-later _ _ (lt-leb (s .table .n) x h) ∙ first-here _ _ (ap not (ne-eqb (at (s .table) x .owner) nobody d)))
+
+-- ---- the rows of a report
+module _ (t : Table) (records f : ℕ) (rows : RefusesTable t f) where
+  -- those on the table come first
+  pub report-table : f ≢ 0 → f ≡ reportRefusal t records
+  unfolding reportRefusal tableRows
+  report-table d = group-refuses (tableRows t) (badLength (t .n) records ∷ []) f (rows .tells) d
+
+  module _ (z : f ≡ 0) where
+    -- then the number of records
+    report-length : (g : ℕ) → g ≡ firstRefusal (badLength (t .n) records ∷ []) → g ≡ reportRefusal t records
+    unfolding reportRefusal tableRows badSize notWellFormed
+    report-length g e = group-passes (tableRows t) (badLength (t .n) records ∷ []) f g refl (rows .tells) z e
+
+    -- which is wrong
+    pub report-wrong-length : records ≢ t .n → 11 ≡ reportRefusal t records
+    unfolding badLength
+    report-wrong-length d = report-length 11 (sym (first-here _ _ (ap not (ne-eqb records (t .n) d))))
+
+    -- or right
+    pub report-right-length : records ≡ t .n → 0 ≡ reportRefusal t records
+    unfolding badLength
+    report-right-length e = report-length 0 (sym (first-later _ _ (ap not (eq-eqb records (t .n) e)) ∙ first-none))

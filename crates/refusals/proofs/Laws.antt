@@ -11,7 +11,6 @@ use Rattle.model.specs.WellFormed.{sizeInRange}
 use Rattle.model.specs.Refusals.{badSize}
 use Rattle.model.proofs.Laws.{by}
 
-
 -- a time code above 15 is none
 pub bad-time : (code : ℕ) → ltb 15 code ≡ not (isTimeCode code)
 unfolding isTimeCode

@@ -1,0 +1,66 @@
+-- What making a table and the outcome call promise, by the code's tests.
+use mathlib.Core.Path.{_≡_, refl, sym, _∙_, ap}
+use mathlib.Core.Logic.{_≢_}
+use mathlib.Core.List.{[], _∷_}
+use Prim.Native.Nat.{ℕ, suc, _≤_, _<_}
+use lib.ListN.{take}
+use borrow.Author.Tests.{leb-true}
+use Rattle.model.specs.declared.Answer.the-variants.{Refused, Accepted}
+use Rattle.model.specs.declared.Table.{Table}
+use Rattle.model.specs.Answers.{SaidOutcome, shown}
+use Rattle.model.specs.Shared.{wordLimit}
+use Rattle.model.specs.Threads.{newTable, at, wordsAt}
+use Rattle.model.specs.WellFormed.{numbersInRange}
+use Rattle.model.specs.Calls.{step, State}
+use Rattle.model.specs.Refusals.{unless, refusal, makeRefusal, outcomeRefusal}
+use Rattle.model.specs.Promise.{makeAnswer, madeTable, MakePromise, view, outcomeAnswer, outcomeWords}
+use Rattle.model.proofs.Laws.{all-of-read}
+use Rattle.model.proofs.Tested.{well-formed-told}
+use Rattle.laws.proofs.Lists.{zero-or-not}
+use Rattle.laws.proofs.Refusals.{outcome-as-step}
+use Rattle.core.specs.Allowed.{Checked}
+
+-- ---- making a table
+module _ (n g : ℕ) (e : g ≡ makeRefusal n) where
+  -- none made
+  pub make-refused : g ≢ 0 → MakePromise n (Refused g) (newTable 0)
+  unfolding makeAnswer madeTable unless
+  make-refused d = zero-or-not g (λ z. absurd (d z)) (λ k is. let r : makeRefusal n ≡ suc k = sym e ∙ is in record { answers = rw (is, r) refl; makes = rw r refl })
+
+  -- one made
+  pub make-accepted : g ≡ 0 → MakePromise n Accepted (newTable n)
+  unfolding makeAnswer madeTable unless
+  make-accepted z = let r : makeRefusal n ≡ 0 = sym e ∙ z in record { answers = rw r refl; makes = rw r refl }
+
+-- ---- the outcome call, which is refused as a step is
+module _ (s : State) (x g : ℕ) (e : g ≡ refusal (step x) s) where
+  -- the number by which it is refused
+  number-is : outcomeRefusal s x ≡ g
+  number-is = outcome-as-step s x ∙ sym e
+
+  module _ (d : g ≢ 0) where
+    -- refused, it answers the number
+    pub outcome-refused : SaidOutcome.refused g ≡ outcomeAnswer s x
+    unfolding outcomeAnswer unless
+    outcome-refused = zero-or-not g (λ z. absurd (d z)) (λ k is. rw (number-is, is) refl)
+
+    -- and hands back no word
+    pub words-refused : [] ≡ outcomeWords s x
+    unfolding outcomeWords unless
+    words-refused = zero-or-not g (λ z. absurd (d z)) (λ k is. rw (number-is ∙ is) refl)
+
+  module _ (z : g ≡ 0) where
+    -- else it shows code, source and count
+    pub outcome-shown : shown (at (s .table) x .outcome) ≡ outcomeAnswer s x
+    unfolding outcomeAnswer unless view
+    outcome-shown = rw (number-is ∙ z) refl
+
+    -- and the words
+    pub words-shown : take (at (s .table) x .outcome .count) (wordsAt (s .store) x) ≡ outcomeWords s x
+    unfolding outcomeWords unless view
+    words-shown = rw (number-is ∙ z) refl
+
+-- a thread of a checked table has received at most eight words
+pub count-fits : (t : Table) → Checked t → (x : ℕ) → x < t .n → at t x .outcome .count ≤ wordLimit
+unfolding numbersInRange
+count-fits t k x below = leb-true (at t x .outcome .count) wordLimit (all-of-read _ (well-formed-told t (k .formed) .numbers x below) .1 .1 .1 .1 .1 .1 .1 .1 .1 .1 .0)

@@ -1,0 +1,72 @@
+use mathlib.Core.Path.{refl, _∙_}
+use native.Mathlib.Omega.{arith}
+use borrow.Author.Needs.{needs}
+use Rattle.model.specs.Calls.{step}
+use Rattle.model.specs.Threads.{at}
+use Rattle.engine.proofs.Refused.{table-number, later-number, table-checked, table-few, place-below, place-store}
+use Rattle.engine.proofs.Shown.{words-refused, words-shown, count-fits}
+use Rattle.engine.proofs.outcome_words.Statement.{statement}
+use Rattle.engine.proofs.outcome_words.Tie as tie
+
+table-refusal-requires : tie.Need-table-refusal-requires
+table-refusal-requires c κs = search needs
+
+sub-result : tie.Need-sub-result
+sub-result c = search needs
+
+part-result-start : tie.Need-part-result-start
+part-result-start c = search needs
+
+part-result-end : tie.Need-part-result-end
+part-result-end c = search needs
+
+returns : tie.Need-returns
+returns c = words-refused _ (c .before .before .before .before .args .thread) _ (table-number (step (c .before .before .before .before .args .thread)) _ _ (c .before .before .table-refusal .ensures) (c .before .if1 .taken)) (c .before .if1 .taken)
+
+place-refusal-requires : tie.Need-place-refusal-requires
+place-refusal-requires c κs = search needs
+
+sub-result-2 : tie.Need-sub-result-2
+sub-result-2 c = search needs
+
+part-result-start-2 : tie.Need-part-result-start-2
+part-result-start-2 c = search needs
+
+part-result-end-2 : tie.Need-part-result-end-2
+part-result-end-2 c = search needs
+
+returns-2 : tie.Need-returns-2
+returns-2 c = words-refused _ (c .before .before .before .before .before .before .args .thread) _ (later-number (step (c .before .before .before .before .before .before .args .thread)) _ _ (c .before .before .before .before .table-refusal .ensures) (c .before .before .before .if1 .left) _ (c .before .before .place-refusal .ensures (c .before .before .before .before .before .before .args .t1) refl)) (c .before .if2 .taken)
+
+mul-own : tie.Need-mul-own
+mul-own c = search needs
+
+element-copy-out-own : tie.Need-element-copy-out-own
+element-copy-out-own c = omega (arith, table-few _ _ (c .before .before .before .table-refusal .ensures) (c .before .before .if1 .left), place-below (c .before .before .before .before .before .args .t1) _ _ _ (c .before .place-refusal .ensures (c .before .before .before .before .before .args .t1) refl) (c .if2 .left))
+
+first-words-requires : tie.Need-first-words-requires
+unfolding at
+first-words-requires c κs = (omega (arith, place-below (c .before .before .before .before .before .before .before .args .t1) _ _ _ (c .before .before .before .place-refusal .ensures (c .before .before .before .before .before .before .before .args .t1) refl) (c .before .before .if2 .left), place-store (c .before .before .before .before .before .before .before .args .t1) _ _ _ (c .before .before .before .place-refusal .ensures (c .before .before .before .before .before .before .before .args .t1) refl) (c .before .before .if2 .left)), count-fits (c .before .before .before .before .before .before .before .args .t1) (table-checked _ _ (c .before .before .before .before .before .table-refusal .ensures) (c .before .before .before .before .if1 .left)) _ (place-below (c .before .before .before .before .before .before .before .args .t1) _ _ _ (c .before .before .before .place-refusal .ensures (c .before .before .before .before .before .before .before .args .t1) refl) (c .before .before .if2 .left)))
+
+returns-3 : tie.Need-returns-3
+unfolding at
+returns-3 c = c .first-words .ensures ∙ words-shown _ (c .before .before .before .before .before .before .before .before .args .thread) _ (later-number (step (c .before .before .before .before .before .before .before .before .args .thread)) _ _ (c .before .before .before .before .before .before .table-refusal .ensures) (c .before .before .before .before .before .if1 .left) _ (c .before .before .before .before .place-refusal .ensures (c .before .before .before .before .before .before .before .before .args .t1) refl)) (c .before .before .before .if2 .left)
+
+pub outcome-words-spec : {M : Type 1} → statement M
+outcome-words-spec =
+    tie.close
+    (tie.spec
+    table-refusal-requires
+    sub-result
+    part-result-start
+    part-result-end
+    returns
+    place-refusal-requires
+    sub-result-2
+    part-result-start-2
+    part-result-end-2
+    returns-2
+    mul-own
+    element-copy-out-own
+    first-words-requires
+    returns-3)

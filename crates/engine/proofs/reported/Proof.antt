@@ -1,0 +1,29 @@
+use native.Mathlib.Omega.{arith}
+use borrow.Author.Needs.{needs}
+use Rattle.engine.proofs.Refused.{table-few, report-table, report-wrong-length, report-right-length}
+use Rattle.engine.proofs.Reports.{refused-report, accepted-report}
+use Rattle.engine.proofs.reported.Statement.{statement}
+use Rattle.engine.proofs.reported.Tie as tie
+
+outcomes-of-requires : tie.Need-outcomes-of-requires
+outcomes-of-requires c κs = search needs
+
+table-refusal-requires : tie.Need-table-refusal-requires
+table-refusal-requires c κs = search needs
+
+returns : tie.Need-returns
+returns c = refused-report _ _ _ _ (report-table _ _ _ (c .before .table-refusal .ensures) (c .if1 .taken)) (c .if1 .taken)
+
+cast-n : tie.Need-cast-n
+cast-n c = search needs
+
+returns-2 : tie.Need-returns-2
+returns-2 c = refused-report _ _ 11 _ (report-wrong-length _ _ _ (c .before .before .before .table-refusal .ensures) (c .before .before .if1 .left) (c .if2 .taken)) (λ e. omega arith)
+
+returns-3 : tie.Need-returns-3
+returns-3 c = accepted-report _ _ _ (report-right-length _ _ _ (c .before .before .before .table-refusal .ensures) (c .before .before .if1 .left) (c .if2 .left)) (c .if2 .left) (table-few _ _ (c .before .before .before .table-refusal .ensures) (c .before .before .if1 .left)) (c .before .before .before .before .outcomes-of .ensures)
+
+pub reported-spec : {M : Type 1} → statement M
+reported-spec =
+    tie.close
+    (tie.spec outcomes-of-requires table-refusal-requires returns cast-n returns-2 returns-3)

@@ -1,0 +1,4 @@
+pub mod Tests
+pub mod Codes
+pub mod Held
+pub mod Alone

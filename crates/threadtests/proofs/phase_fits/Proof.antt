@@ -1,0 +1,14 @@
+use mathlib.Core.Bool.{or-false}
+use Rattle.model.specs.Lists.{implies}
+use Rattle.formed.proofs.Flags.{isOneOf}
+use Rattle.formed.proofs.Own.{phaseFits}
+use Rattle.threadtests.proofs.Tests.{all-joined}
+use Rattle.threadtests.proofs.phase_fits.Statement.{statement}
+use Rattle.threadtests.proofs.phase_fits.Tie as tie
+
+returns : tie.Need-returns
+unfolding phaseFits isOneOf implies
+returns c = simp or-false (all-joined _ _)
+
+pub phase-fits-spec : {M : Type 1} → statement M
+phase-fits-spec = tie.close (tie.spec returns)

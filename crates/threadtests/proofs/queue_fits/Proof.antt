@@ -1,0 +1,12 @@
+use Rattle.model.specs.WellFormed.{nobodyOrBelow}
+use Rattle.formed.proofs.Own.{queueFits}
+use Rattle.threadtests.proofs.Tests.{all-joined}
+use Rattle.threadtests.proofs.queue_fits.Statement.{statement}
+use Rattle.threadtests.proofs.queue_fits.Tie as tie
+
+returns : tie.Need-returns
+unfolding queueFits nobodyOrBelow
+returns c = all-joined _ _
+
+pub queue-fits-spec : {M : Type 1} → statement M
+queue-fits-spec = tie.close (tie.spec returns)

@@ -1,0 +1,8 @@
+pub mod Shape
+pub mod Below
+pub mod Entering
+pub mod Chains
+pub mod Waits
+pub mod Links
+pub mod Passed
+pub mod Verdict

@@ -1,0 +1,31 @@
+-- What the code tests between threads, over what it gathers of each thread.
+use mathlib.Core.Bool.{Bool, not}
+use mathlib.Core.List.{List, [], _∷_}
+use Prim.Native.Nat.{ℕ, suc}
+use lib.ListN.{getD}
+use lib.Dec.{eqb, ltb}
+use Rattle.model.specs.Lists.{implies, allOf, allBelow}
+use Rattle.model.specs.WellFormed.{chain}
+use Rattle.formed.proofs.Locks.{within}
+
+-- what an array says of thread x
+abbrev pub entry : List ℕ → ℕ → ℕ
+entry l x = getD l x 0
+
+-- if there is a thread of the table, it points back to r
+unfoldable pub pointsBack : ℕ → (ℕ → ℕ) → ℕ → ℕ → Bool
+pointsBack n back there r = implies (ltb there n) (eqb (back there) r)
+
+-- the chain of lock owners from r does not come back within n owners
+unfoldable pub chainEnds : ℕ → (ℕ → ℕ) → ℕ → Bool
+chainEnds n owner r = allBelow n (λ k. not (eqb (chain (within n owner) (suc k) r) r))
+
+-- thread r waits where it sends to; the owner of its lock holds it, and it owns the lock that it holds; its chain of owners ends
+unfoldable pub linkFits : ℕ → (ℕ → ℕ) → (ℕ → ℕ) → (ℕ → ℕ) → (ℕ → ℕ) → ℕ → Bool
+linkFits n waits target owner holds r = allOf (
+    eqb (waits r) (target r)
+    ∷ pointsBack n holds (owner r) r
+    ∷ pointsBack n owner (holds r) r
+    ∷ chainEnds n owner r
+    ∷ []
+    )
