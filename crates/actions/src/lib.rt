@@ -11,25 +11,6 @@ use model::Answer;
 use model::Outcome;
 use model::Thread;
 
-// The phases by their numbers.
-pub const IDLE: u8 = 0;
-
-pub const LOCK: u8 = 1;
-
-pub const CHECK: u8 = 2;
-
-pub const COPY: u8 = 3;
-
-pub const RELEASE: u8 = 4;
-
-pub const SLEEP: u8 = 5;
-
-pub const LOOK: u8 = 6;
-
-pub const WAKE: u8 = 7;
-
-pub const UNLOCK: u8 = 8;
-
 // The answer of a step, and its two threads afterwards.
 pub struct Changed {
     pub answer: Answer,
@@ -54,7 +35,7 @@ pub fn take_lock(x: u8, own: Thread, other: Thread) -> Changed
 {
     let mut mine = own;
     mine.flags.poll = true;
-    mine.phase = CHECK;
+    mine.phase = threads::CHECK;
     let mut theirs = other;
     theirs.owner = x;
     Changed {
@@ -71,7 +52,7 @@ pub fn abort_send(x: u8, code: i32, own: Thread, other: Thread) -> Changed
 {
     let ended = threads::end_with_code(own, code);
     let mut mine = threads::drop_receive(ended);
-    mine.phase = RELEASE;
+    mine.phase = threads::RELEASE;
     let theirs = queues::depart(other, x);
     Changed {
         answer: Answer::Moved,
@@ -86,7 +67,7 @@ pub fn start_copy(own: Thread, other: Thread) -> Changed
 {
     let mut mine = own;
     mine.copied = 0;
-    mine.phase = COPY;
+    mine.phase = threads::COPY;
     Changed {
         answer: Answer::Moved,
         own: mine,
@@ -99,7 +80,7 @@ pub fn go_to_release(own: Thread, other: Thread) -> Changed
     ensures { λ r. ⌜ ((x : ℕ) → Acted toRelease x own other r) ⌝ }
 {
     let mut mine = own;
-    mine.phase = RELEASE;
+    mine.phase = threads::RELEASE;
     Changed {
         answer: Answer::Moved,
         own: mine,
@@ -154,7 +135,7 @@ pub fn finish_call(x: u8, own: Thread, other: Thread) -> Changed
     mine.flags.send = false;
     mine.flags.poll = false;
     mine.left = threads::tick_count(threads::receive_time(receive));
-    mine.phase = RELEASE;
+    mine.phase = threads::RELEASE;
     let theirs = complete_receive(x, send.count, other);
     Changed {
         answer: Answer::Moved,
@@ -171,7 +152,7 @@ pub fn finish_send(x: u8, own: Thread, other: Thread) -> Changed
     let op = own.op;
     let send = op.send;
     let mut mine = threads::end_with_code(own, threads::DONE);
-    mine.phase = RELEASE;
+    mine.phase = threads::RELEASE;
     let theirs = complete_receive(x, send.count, other);
     Changed {
         answer: Answer::Moved,
@@ -200,7 +181,7 @@ pub fn try_again(own: Thread, other: Thread) -> Changed
     ensures { λ r. ⌜ ((x : ℕ) → Acted retry x own other r) ⌝ }
 {
     let mut mine = own;
-    mine.phase = LOCK;
+    mine.phase = threads::LOCK;
     Changed {
         answer: Answer::Moved,
         own: mine,
@@ -213,7 +194,7 @@ pub fn go_idle(own: Thread, other: Thread) -> Changed
     ensures { λ r. ⌜ ((x : ℕ) → Acted toIdle x own other r) ⌝ }
 {
     let mut mine = own;
-    mine.phase = IDLE;
+    mine.phase = threads::IDLE;
     Changed {
         answer: Answer::Moved,
         own: mine,
@@ -226,7 +207,7 @@ pub fn abort_receive(code: i32, own: Thread, other: Thread) -> Changed
     ensures { λ r. ⌜ ((x : ℕ) → Acted (abortReceive code) x own other r) ⌝ }
 {
     let mut mine = threads::end_with_code(own, code);
-    mine.phase = IDLE;
+    mine.phase = threads::IDLE;
     Changed {
         answer: Answer::Moved,
         own: mine,
@@ -240,7 +221,7 @@ pub fn take_sender(x: u8, s: u8, own: Thread, other: Thread) -> Changed
 {
     let mut mine = own;
     mine.waking = s;
-    mine.phase = WAKE;
+    mine.phase = threads::WAKE;
     let mut theirs = other;
     theirs.owner = x;
     Changed {
@@ -255,7 +236,7 @@ pub fn clear_poll(own: Thread, other: Thread) -> Changed
     ensures { λ r. ⌜ ((x : ℕ) → Acted clearPoll x own other r) ⌝ }
 {
     let mut mine = own;
-    mine.phase = UNLOCK;
+    mine.phase = threads::UNLOCK;
     let mut theirs = other;
     theirs.flags.poll = false;
     Changed {
@@ -270,7 +251,7 @@ pub fn free_sender(own: Thread, other: Thread) -> Changed
     ensures { λ r. ⌜ ((x : ℕ) → Acted freeSender x own other r) ⌝ }
 {
     let mut mine = own;
-    mine.phase = LOOK;
+    mine.phase = threads::LOOK;
     let mut theirs = other;
     theirs.owner = threads::NOBODY;
     Changed {

@@ -7,8 +7,9 @@ use lib.ListN.{length}
 use lib.Dec.{leb}
 use borrow.Author.Tests.{leb-true, lt-leb, eq-eqb}
 use Rattle.model.specs.declared.Operation.{Operation}
+use Rattle.model.specs.declared.Table.{Table}
 use Rattle.model.specs.Threads.{newTable, at, lockFree}
-use Rattle.model.specs.WellFormed.{sizeInRange, WellFormed}
+use Rattle.model.specs.WellFormed.{sizeInRange, Shaped, WellFormed, wellFormed}
 use Rattle.model.specs.Calls.{Call, begin, step, cancel, tick, State}
 use Rattle.model.specs.Refusals.{Row, firstRefusal, unless, badSize, notWellFormed, noThread, badLength, lockOwned, notIdle, neitherPart, withItself, noPartner, tooManyWords, badTime, threadAndStoreRows, rowsOf, refusal, makeRefusal}
 use Rattle.model.specs.Promise.{madeTable, next}
@@ -17,7 +18,11 @@ use Rattle.model.proofs.Tested.{well-formed-tested, well-formed-told}
 use Rattle.laws.proofs.Rows.{NoneHolds, rows-passed}
 use Rattle.invariant.proofs.New.{new-size, new-shaped, made-well-formed}
 use Rattle.invariant.proofs.Keeps.{keeps-shaped, keeps-test}
-use Rattle.core.specs.Allowed.{Allowed, Checked}
+
+-- a table from which the core may run: it has passed the check, or was left by a call that started from one that had
+pub record Checked (t : Table) : Type 0 where
+  pub formed : wellFormed t ≡ true
+  pub shaped : Shaped t
 
 -- ---- checked tables
 module _ (n : ℕ) (made : makeRefusal n ≡ 0) where
@@ -39,52 +44,52 @@ module _ (n : ℕ) (made : makeRefusal n ≡ 0) where
 pub keeps-checked : (c : Call) (s : State) → Checked (s .table) → Checked (next c s .table)
 keeps-checked c s k = record { formed = keeps-test c s (k .shaped) (k .formed); shaped = keeps-shaped c s (k .shaped) }
 
--- ---- what the cheap tests give, where the table is checked
-module _ (s : State) (k : Checked (s .table)) where
+-- ---- what the cheap tests give, where the table has passed the check
+module _ (s : State) (formed : wellFormed (s .table) ≡ true) where
   -- the row on the size does not hold
   size-passed : badSize (s .table .n) .when ≡ false
   unfolding badSize
-  size-passed = ap not (well-formed-told (s .table) (k .formed) .size)
+  size-passed = ap not (well-formed-told (s .table) formed .size)
 
   -- nor the row of the check
   formed-passed : notWellFormed (s .table) .when ≡ false
   unfolding notWellFormed
-  formed-passed = ap not (k .formed)
+  formed-passed = ap not formed
 
-  -- a call may run where the rows after those that are passed refuse nothing
-  allowed-by : (c : Call) (passed rest : List Row) → rowsOf c s ≡ passed ++ rest → NoneHolds passed → firstRefusal rest ≡ 0 → Allowed c s
+  -- a call is not refused where the rows after those that are passed refuse nothing
+  accepted-by : (c : Call) (passed rest : List Row) → rowsOf c s ≡ passed ++ rest → NoneHolds passed → firstRefusal rest ≡ 0 → refusal c s ≡ 0
   unfolding refusal
-  allowed-by c passed rest all out e = record { shaped = k .shaped; accepted = ap firstRefusal all ∙ rows-passed passed rest out ∙ e }
+  accepted-by c passed rest all out e = ap firstRefusal all ∙ rows-passed passed rest out ∙ e
 
-  -- a tick may run
-  pub tick-allowed : Allowed tick s
+  -- a tick is not refused
+  pub tick-accepted : refusal tick s ≡ 0
   unfolding rowsOf firstRefusal
-  tick-allowed = allowed-by tick (rowsOf tick s) [] refl (size-passed and formed-passed and tt) refl
+  tick-accepted = accepted-by tick (rowsOf tick s) [] refl (size-passed and formed-passed and tt) refl
 
-module _ (x : ℕ) (s : State) (k : Checked (s .table)) (below : x < s .table .n) where
+module _ (x : ℕ) (s : State) (formed : wellFormed (s .table) ≡ true) (below : x < s .table .n) where
   -- the row on the thread's number does not hold
   thread-passed : noThread (s .table) x .when ≡ false
   unfolding noThread
   thread-passed = lt-leb (s .table .n) x below
 
-  -- a cancel of a thread whose lock is free may run
-  pub cancel-allowed : lockFree (at (s .table) x) ≡ true → Allowed (cancel x) s
+  -- a cancel of a thread whose lock is free is not refused
+  pub cancel-accepted : lockFree (at (s .table) x) ≡ true → refusal (cancel x) s ≡ 0
   unfolding rowsOf firstRefusal lockOwned
-  cancel-allowed unowned = allowed-by s k (cancel x) (rowsOf (cancel x) s) [] refl (size-passed s k and formed-passed s k and thread-passed and ap not unowned and tt) refl
+  cancel-accepted unowned = accepted-by s formed (cancel x) (rowsOf (cancel x) s) [] refl (size-passed s formed and formed-passed s formed and thread-passed and ap not unowned and tt) refl
 
   -- the rows on the table, the thread and the store do not hold
   places-passed : length (s .store) ≡ 8 * s .table .n → NoneHolds (threadAndStoreRows s x)
   unfolding threadAndStoreRows badLength
-  places-passed fit = size-passed s k and formed-passed s k and thread-passed and ap not (eq-eqb (length (s .store)) (8 * s .table .n) fit) and tt
+  places-passed fit = size-passed s formed and formed-passed s formed and thread-passed and ap not (eq-eqb (length (s .store)) (8 * s .table .n) fit) and tt
 
-  -- a step may run
-  pub step-allowed : length (s .store) ≡ 8 * s .table .n → Allowed (step x) s
+  -- a step is not refused
+  pub step-accepted : length (s .store) ≡ 8 * s .table .n → refusal (step x) s ≡ 0
   unfolding rowsOf threadAndStoreRows firstRefusal
-  step-allowed fit = allowed-by s k (step x) (threadAndStoreRows s x) [] refl (places-passed fit) refl
+  step-accepted fit = accepted-by s formed (step x) (threadAndStoreRows s x) [] refl (places-passed fit) refl
 
--- a begin may run where none of the rows on the thread's state and the operation holds
-pub begin-allowed : (x : ℕ) (o : Operation) (s : State) → Checked (s .table) → x < s .table .n → length (s .store) ≡ 8 * s .table .n
+-- a begin is not refused where none of the rows on the thread's state and the operation holds
+pub begin-accepted : (x : ℕ) (o : Operation) (s : State) → wellFormed (s .table) ≡ true → x < s .table .n → length (s .store) ≡ 8 * s .table .n
     → firstRefusal (lockOwned (s .table) x ∷ notIdle (s .table) x ∷ neitherPart o ∷ withItself x o ∷ noPartner (s .table) o ∷ tooManyWords o ∷ badTime o ∷ []) ≡ 0
-    → Allowed (begin x o) s
+    → refusal (begin x o) s ≡ 0
 unfolding rowsOf threadAndStoreRows
-begin-allowed x o s k below fit e = allowed-by s k (begin x o) (threadAndStoreRows s x) _ refl (places-passed x s k below fit) e
+begin-accepted x o s formed below fit e = accepted-by s formed (begin x o) (threadAndStoreRows s x) _ refl (places-passed x s formed below fit) e

@@ -6,7 +6,10 @@ use Prim.Native.Nat.{ℕ, _+_, _*_, _≤_, _<_}
 use native.Mathlib.Numerals.{add-one}
 use native.Mathlib.Omega.{arith}
 use lib.ListN.{length}
-use borrow.Author.Tests.{le-leb, lt-leb}
+use lib.Dec.{leb}
+use borrow.Author.Tests.{leb-true, le-leb, lt-leb}
+use mir.Val.{Val}
+use denote.Shadow.{shadow}
 use Rattle.model.specs.declared.Operation.{Operation}
 use Rattle.model.specs.declared.Thread.{Thread}
 use Rattle.model.specs.declared.Table.{Table}
@@ -15,16 +18,19 @@ use Rattle.model.specs.declared.Answer.the-variants.{Accepted, Marked, NothingT
 use Rattle.model.specs.Answers.{replied, said}
 use Rattle.model.specs.Shared.{noReceiver, codeOnly, targetBeyond}
 use Rattle.model.specs.Threads.{lock, look, at, put, edit, editBelow, marked, ended, joined, zeroed}
+use Rattle.model.specs.WellFormed.{sizeInRange, Shaped}
 use Rattle.model.specs.Calls.{begun, beginTable, cancelTable, cancelReply, ticked, tickTable, Call, begin, cancel, tick, State, acceptedReply, acceptedState}
 use Rattle.model.specs.Refusals.{rowsOf, refusal}
 use Rattle.model.specs.Promise.{state, Promise}
+use Rattle.model.proofs.Table.{the-row}
+use Rattle.model.proofs.Laws.{and-right}
+use Rattle.model.proofs.Tested.{well-formed-told}
 use Rattle.model.proofs.Free.{target-beyond}
-use Rattle.laws.proofs.Refusals.{AcceptedBegin, accepted-begin, accepted-cancel}
+use Rattle.laws.proofs.Refusals.{AcceptedBegin, accepted-table, accepted-begin, accepted-cancel}
 use Rattle.laws.proofs.Calls.{accepted-next, accepted-answer, begins-to-send, begins-to-receive, cancel-marks, cancel-marks-reply, cancel-nothing, cancel-nothing-reply}
-use Rattle.formed.proofs.Formed.{Formed}
+use Rattle.formed.proofs.Shape.{shaped}
 use Rattle.formed.proofs.Neighbours.{quiet-in-idle, queue-room}
 use Rattle.invariant.proofs.Keeps.{found-formed}
-use Rattle.core.specs.Allowed.{Allowed}
 
 -- ---- every call
 module _ (c : Call) (s : State) where
@@ -32,23 +38,25 @@ module _ (c : Call) (s : State) where
   pub performed : refusal c s ≡ 0 → (a : Answer) (after : State) → said a ≡ replied (acceptedReply c s) → after ≡ acceptedState c s → Promise c s a after
   performed e a after says leaves = record { answers = says ∙ sym (accepted-answer c s e); leaves = leaves ∙ sym (accepted-next c s e) }
 
-  -- a call that may run finds well-formed threads
-  pub allowed-formed : Allowed c s → Formed (s .table .n) (at (s .table))
-  allowed-formed may = found-formed c s (may .shaped) (may .accepted)
+  module _ (e : refusal c s ≡ 0) where
+    -- a call that is not refused finds at most 32 threads
+    pub accepted-few : s .table .n ≤ 32
+    unfolding sizeInRange
+    accepted-few = let sized = well-formed-told (s .table) (accepted-table c s e) .size in leb-true (s .table .n) 32 (and-right (leb 1 (s .table .n)) (leb (s .table .n) 32) sized)
 
-  -- there are at most 32 of them
-  pub allowed-few : Allowed c s → s .table .n ≤ 32
-  allowed-few may = allowed-formed may .few
+    -- its table's arrays are whole, as the table's type tells
+    pub accepted-shaped : (vs : List Val) → shadow (the-row .own (s .table) vs) → Shaped (s .table)
+    accepted-shaped vs typed = shaped (s .table) vs typed accepted-few
 
 -- ---- begin
-module _ (x : ℕ) (o : Operation) (s : State) (may : Allowed (begin x o) s) where
+module _ (x : ℕ) (o : Operation) (s : State) (e : refusal (begin x o) s ≡ 0) where
   -- what it was tested for
   tested : AcceptedBegin s x o
-  tested = accepted-begin x o s (may .accepted)
+  tested = accepted-begin x o s e
 
   -- the thread has a place in the array
   pub begin-place : x < 32
-  begin-place = omega (arith, tested .below, allowed-few (begin x o) s may)
+  begin-place = omega (arith, tested .below, accepted-few (begin x o) s e)
 
   -- and eight words in the store
   pub begin-words : 8 * x + 8 ≤ length (s .store)
@@ -56,18 +64,18 @@ module _ (x : ℕ) (o : Operation) (s : State) (may : Allowed (begin x o) s) whe
 
   -- a target in the table has a place in the array
   pub target-place : o .send .target < s .table .n → o .send .target < 32
-  target-place near = omega (arith, allowed-few (begin x o) s may)
+  target-place near = omega (arith, accepted-few (begin x o) s e)
 
   -- and room in its queue
-  pub target-room : o .send .target < s .table .n → at (s .table) (o .send .target) .queue .len < 32
-  target-room near = let F = allowed-formed (begin x o) s may in
+  pub target-room : Shaped (s .table) → o .send .target < s .table .n → at (s .table) (o .send .target) .queue .len < 32
+  target-room whole near = let F = found-formed (begin x o) s whole e in
       queue-room F x (o .send .target) (tested .below) near (quiet-in-idle F x (tested .below) (tested .inIdle))
 
   module _ (words : List ℕ) (cleared : words ≡ zeroed x (s .store)) where
     -- the promise by the table that is left
     begin-performed : (after : Table) → after ≡ beginTable x o (s .table) → Promise (begin x o) s Accepted (state after words)
     unfolding acceptedReply acceptedState
-    begin-performed after left = performed (begin x o) s (may .accepted) Accepted (state after words) refl (rw (left, cleared) refl)
+    begin-performed after left = performed (begin x o) s e Accepted (state after words) refl (rw (left, cleared) refl)
 
     -- with a target of n or more: h is the thread that ended
     pub begin-beyond : o .send .present ≡ true → s .table .n ≤ o .send .target → (h : Thread) → h ≡ ended (codeOnly noReceiver) (at (s .table) x)
@@ -88,14 +96,14 @@ module _ (x : ℕ) (o : Operation) (s : State) (may : Allowed (begin x o) s) whe
 
 -- ---- cancel
 -- the thread has a place in the array
-pub cancel-place : (x : ℕ) (s : State) → Allowed (cancel x) s → x < 32
-cancel-place x s may = omega (arith, accepted-cancel x s (may .accepted) .below, allowed-few (cancel x) s may)
+pub cancel-place : (x : ℕ) (s : State) → refusal (cancel x) s ≡ 0 → x < 32
+cancel-place x s e = omega (arith, accepted-cancel x s e .below, accepted-few (cancel x) s e)
 
-module _ (x : ℕ) (t : Table) (may : Allowed (cancel x) (state t [])) where
+module _ (x : ℕ) (t : Table) (e : refusal (cancel x) (state t []) ≡ 0) where
   -- the promise by the answer and the table that is left, whatever the store
   cancel-performed : (a : Answer) (after : Table) → said a ≡ replied (cancelReply x t) → after ≡ cancelTable x t → (store : List ℕ) → Promise (cancel x) (state t store) a (state after store)
   unfolding acceptedReply acceptedState refusal rowsOf
-  cancel-performed a after says left store = performed (cancel x) (state t store) (may .accepted) a (state after store) says (ap (λ (u : Table). state u store) left)
+  cancel-performed a after says left store = performed (cancel x) (state t store) e a (state after store) says (ap (λ (u : Table). state u store) left)
 
   -- of a running operation: h is the thread with its mark
   pub cancel-running : at t x .flags .ipc ≡ true → (h : Thread) → h ≡ marked (at t x) → (store : List ℕ) → Promise (cancel x) (state t store) Marked (state (put x h t) store)
@@ -109,9 +117,9 @@ module _ (x : ℕ) (t : Table) (may : Allowed (cancel x) (state t [])) where
 -- ---- tick
 module _ (t : Table) where
   -- the promise by the table that is left, whatever the store
-  pub tick-performed : Allowed tick (state t []) → (after : Table) → after ≡ tickTable t → (store : List ℕ) → Promise tick (state t store) Accepted (state after store)
+  pub tick-performed : refusal tick (state t []) ≡ 0 → (after : Table) → after ≡ tickTable t → (store : List ℕ) → Promise tick (state t store) Accepted (state after store)
   unfolding acceptedReply acceptedState refusal rowsOf
-  tick-performed may after left store = performed tick (state t store) (may .accepted) Accepted (state after store) refl (ap (λ (u : Table). state u store) left)
+  tick-performed e after left store = performed tick (state t store) e Accepted (state after store) refl (ap (λ (u : Table). state u store) left)
 
   -- no thread is ticked yet
   pub none-ticked : t ≡ editBelow 0 ticked t

@@ -16,8 +16,10 @@ use Rattle.model.specs.declared.Answer.the-variants.{Held}
 use Rattle.model.specs.Answers.{held, replied}
 use Rattle.model.specs.Shared.{receiveCancelled, nobody, hasReceive}
 use Rattle.model.specs.Threads.{Phase, idle, lock, check, copy, release, sleep, look, wake, unlock, unknown, phaseOf, phaseNumber, at, put, lockFree, findSender}
+use Rattle.model.specs.WellFormed.{Shaped}
 use Rattle.model.specs.Step.{Action, abortReceive, toIdle, copyWord, stay, other, lookAt, decideIn, decide, replyOf, ownAfter, otherAfter, act, wordCopied, storeAfter}
 use Rattle.model.specs.Calls.{step, State, acceptedReply, acceptedState}
+use Rattle.model.specs.Refusals.{refusal}
 use Rattle.model.specs.Promise.{Promise, state}
 use Rattle.model.proofs.Laws.{by, same?}
 use Rattle.laws.proofs.Lists.{cond-true, cond-false}
@@ -29,13 +31,13 @@ use Rattle.laws.proofs.Refusals.{accepted-step}
 use Rattle.formed.proofs.Facts.{count-small, queue-small}
 use Rattle.formed.proofs.Formed.{Formed}
 use Rattle.formed.proofs.Neighbours.{below-nobody, number, sends-in-check, sends-in-copy, target-in-lock, target-in-check, target-in-copy, target-in-release, woken-in-wake, woken-in-unlock, queued-sends, queued-at-target}
+use Rattle.invariant.proofs.Keeps.{found-formed}
 use Rattle.actions.specs.declared.Changed.{Changed}
 use Rattle.actions.specs.Acted.{Acted, Waits}
 use Rattle.phases.specs.Fit.{foundAs, Fit, wordAdded, wordsAfter}
 use Rattle.phases.proofs.Decisions.{in-number, copy-word, copy-calls, copy-sends, words-kept, words-copied}
-use Rattle.core.specs.Allowed.{Allowed}
 use Rattle.core.specs.Places.{orOwn}
-use Rattle.core.proofs.Performed.{performed, allowed-formed}
+use Rattle.core.proofs.Performed.{performed}
 
 -- where there is another thread, it is the one that is read
 pub or-other : (o x n : ℕ) → n ≤ nobody → o < n → orOwn o x ≡ o
@@ -141,18 +143,18 @@ module _ (t : Table) (F : Formed (t .n) (at t)) (x : ℕ) (xn : x < t .n) where
       out e = omega arith
 
 -- ---- a step that is not refused
-module _ (x : ℕ) (s : State) (allowed : Allowed (step x) s) where
+module _ (x : ℕ) (s : State) (accepted : refusal (step x) s ≡ 0) (shaped : Shaped (s .table)) where
   -- the table before the step
   abbrev before : Table
   before = s .table
 
   -- what the table tells
   formed : Formed (before .n) (at before)
-  formed = allowed-formed (step x) s allowed
+  formed = found-formed (step x) s shaped accepted
 
   -- the thread is in the table
   below : x < before .n
-  below = accepted-step x s (allowed .accepted) .below
+  below = accepted-step x s accepted .below
 
   -- and in the array
   pub in-array : x < 32
@@ -167,7 +169,7 @@ module _ (x : ℕ) (s : State) (allowed : Allowed (step x) s) where
   unfolding acceptedReply acceptedState decide lockFree replyOf act ownAfter otherAfter storeAfter
   held-stays owned =
       let is : decide before x ≡ stay held = cond-false _ _ _ (ne-eqb (at before x .owner) nobody owned) in
-      performed (step x) s (allowed .accepted) Held s
+      performed (step x) s accepted Held s
       (ap (λ (a : Action). replied (replyOf a)) (sym is))
       (sym (ap (λ (a : Action). state (act a x before) (storeAfter a (at before x) (s .store))) is ∙ ap (λ (t : Table). state t (s .store)) (ap (put x (at before x)) (put-own (other (at before x)) before) ∙ put-own x before)))
 
@@ -187,7 +189,7 @@ module _ (x : ℕ) (s : State) (allowed : Allowed (step x) s) where
 
     -- its eight words are in the store
     pub slice-ends : 8 * j + 8 ≤ length (s .store)
-    slice-ends = let long = accepted-step x s (allowed .accepted) .store in let jn = other-below in omega arith
+    slice-ends = let long = accepted-step x s accepted .store in let jn = other-below in omega arith
 
     -- how many words the slice has, as the code computes it
     abbrev size : ℕ
@@ -265,14 +267,14 @@ module _ (x : ℕ) (s : State) (allowed : Allowed (step x) s) where
           ap (λ (h : Thread). put x h (put j (c .other) before)) (acted .own)
           ∙ ap (λ (h : Thread). put x (ownAfter a (at before x)) (put j h before)) (acted .other)
           ∙ ap (λ (k : ℕ). put x (ownAfter a (at before x)) (put k (otherAfter a x (at before x) (at before k)) before)) is
-          ∙ put-back before formed x below a (allowed .shaped .threads)
+          ∙ put-back before formed x below a (shaped .threads)
           ∙ ap (λ (b : Action). act b x before) e
 
       -- the two threads and the slice put back keep the promise of the step
       pub stepped : (c : Changed) (words : List ℕ) → Acted (decideIn (phaseOf (at before x .phase)) x (at before x) (at before j)) x (at before x) (at before j) c → words ≡ wordsAfter (at before x) slice
           → Promise (step x) s (c .answer) (state (put x (c .own) (put j (c .other) before)) (putMid (8 * j) size (s .store) words))
       unfolding acceptedReply acceptedState
-      stepped c words acted copied = performed (step x) s (allowed .accepted) (c .answer) _
+      stepped c words acted copied = performed (step x) s accepted (c .answer) _
           (acted .answers ∙ ap (λ (a : Action). replied (replyOf a)) (sym decides))
           (ap (λ (t : Table). state t (putMid (8 * j) size (s .store) words)) (table-back _ c (sym decides) acted)
           ∙ ap (λ (w : List ℕ). state (act (decide before x) x before) w) (ap (putMid (8 * j) size (s .store)) copied ∙ store-back))

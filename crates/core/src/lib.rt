@@ -5,8 +5,8 @@ ghost use Prim.Native.Nat.{ℕ};
 ghost use Rattle.model.specs.Shared.{firstTime};
 ghost use Rattle.model.specs.Threads.{Phase, phaseNumber, noOperation, newThread, newTable};
 ghost use Rattle.model.specs.Calls.{Call, begunFlags, begun};
+ghost use Rattle.model.specs.Refusals.{refusal};
 ghost use Rattle.model.specs.Promise.{state, Promise};
-ghost use Rattle.core.specs.Allowed.{Allowed};
 ghost use Rattle.core.specs.Places.{orOwn};
 use model::Answer;
 use model::Flags;
@@ -45,7 +45,7 @@ fn new_thread() -> Thread
     };
     Thread {
         flags: threads::no_flags(),
-        phase: actions::IDLE,
+        phase: threads::IDLE,
         op: no_operation(),
         left: 0,
         queue: queue,
@@ -110,7 +110,7 @@ pub fn begun_with(h: Thread, op: Operation, phase: u8) -> Thread
 
 // Thread x begins an operation.
 pub fn begin(table: Table, x: u8, op: Operation, store: &mut [u32]) -> Returned
-    requires { ⌜ Allowed (Call.begin x op) (state table (now store)) ⌝ }
+    requires { ⌜ refusal (Call.begin x op) (state table (now store)) ≡ 0 ⌝ }
     ensures { λ r. ⌜ Promise (Call.begin x op) (state table (now (store .entry))) (r .answer) (state (r .table) (now (store .exit))) ⌝ }
 {
     words::zero_thread(store, x);
@@ -130,14 +130,14 @@ pub fn begin(table: Table, x: u8, op: Operation, store: &mut [u32]) -> Returned
         let target = next.threads[r];
         next.threads[r] = queues::join(target, x);
         let h = next.threads[i];
-        next.threads[i] = begun_with(h, op, actions::LOCK);
+        next.threads[i] = begun_with(h, op, threads::LOCK);
         return Returned {
             answer: Answer::Accepted,
             table: next,
         };
     }
     let h = next.threads[i];
-    next.threads[i] = begun_with(h, op, actions::LOOK);
+    next.threads[i] = begun_with(h, op, threads::LOOK);
     Returned {
         answer: Answer::Accepted,
         table: next,
@@ -156,7 +156,7 @@ fn other_or_own(o: u8, x: u8) -> u8
 
 // Thread x makes one step.
 pub fn step(table: Table, x: u8, store: &mut [u32]) -> Returned
-    requires { ⌜ Allowed (Call.step x) (state table (now store)) ⌝ }
+    requires { ⌜ refusal (Call.step x) (state table (now store)) ≡ 0 ⌝ }
     ensures { λ r. ⌜ Promise (Call.step x) (state table (now (store .entry))) (r .answer) (state (r .table) (now (store .exit))) ⌝ }
 {
     let i = x as usize;
@@ -187,7 +187,7 @@ pub fn step(table: Table, x: u8, store: &mut [u32]) -> Returned
 
 // Thread x's operation is to be cancelled.
 pub fn cancel(table: Table, x: u8) -> Returned
-    requires { ⌜ Allowed (Call.cancel x) (state table []) ⌝ }
+    requires { ⌜ refusal (Call.cancel x) (state table []) ≡ 0 ⌝ }
     ensures { λ r. ⌜ ((store : List ℕ) → Promise (Call.cancel x) (state table store) (r .answer) (state (r .table) store)) ⌝ }
 {
     let mut next = table;
@@ -208,7 +208,7 @@ pub fn cancel(table: Table, x: u8) -> Returned
 
 // Time passes for every running operation.
 pub fn tick(table: Table) -> Returned
-    requires { ⌜ Allowed Call.tick (state table []) ⌝ }
+    requires { ⌜ refusal Call.tick (state table []) ≡ 0 ⌝ }
     ensures { λ r. ⌜ ((store : List ℕ) → Promise Call.tick (state table store) (r .answer) (state (r .table) store)) ⌝ }
 {
     let n = table.n as usize;

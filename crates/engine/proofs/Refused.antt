@@ -1,10 +1,9 @@
 -- A refused call keeps its promise, group of rows by group; and what a call that passes a group may rely on.
 use mathlib.Core.Path.{_≡_, refl, sym, _∙_, ap, subst}
 use mathlib.Core.Logic.{_≢_}
-use mathlib.Core.Bool.{Bool, true, false, not}
+use mathlib.Core.Bool.{true, false, not}
 use mathlib.Core.List.{List, [], _∷_, _++_}
 use Prim.Native.Nat.{ℕ, suc, _*_, _≤_, _<_}
-use native.Mathlib.Omega.{arith}
 use lib.ListN.{length}
 use lib.Dec.{eqb, leb}
 use borrow.Author.Tests.{leb-true, leb-false, le-leb, lt-leb, eqb-true, eq-eqb, ne-eqb, not-false}
@@ -23,9 +22,6 @@ use Rattle.laws.proofs.Lists.{zero-or-not}
 use Rattle.laws.proofs.Rows.{none-holds, first-none, first-here, first-later, group-refuses, group-passes}
 use Rattle.laws.proofs.Calls.{refused-next, refused-answer}
 use Rattle.refusals.specs.Rows.{tableRows, placeRows, threadRows, operationRows, beginRows}
-use Rattle.wellformed.specs.Verdict.{Verdict}
-use Rattle.core.specs.Allowed.{Checked}
-use Rattle.engine.specs.Tables.{RefusesTable}
 
 -- a call that is refused by a number answers it and changes nothing
 pub refused-promise : (c : Call) (s : State) (g : ℕ) → g ≡ refusal c s → g ≢ 0 → Promise c s (Refused g) s
@@ -54,11 +50,11 @@ rows-in-groups (step x) s = refl
 rows-in-groups (cancel x) s = refl
 rows-in-groups tick s = refl
 
-module _ (c : Call) (s : State) (f : ℕ) (rows : RefusesTable (s .table) f) where
+module _ (c : Call) (s : State) (f : ℕ) (rows : f ≡ firstRefusal (tableRows (s .table))) where
   -- a call is refused by the first row on the table that holds
   pub table-number : f ≢ 0 → f ≡ refusal c s
   unfolding refusal
-  table-number d = group-refuses (tableRows (s .table)) (laterRows c s) f (rows .tells) d ∙ ap firstRefusal (rows-in-groups c s)
+  table-number d = group-refuses (tableRows (s .table)) (laterRows c s) f rows d ∙ ap firstRefusal (rows-in-groups c s)
 
   -- and answers its number
   pub table-refuses : f ≢ 0 → Promise c s (Refused f) s
@@ -67,7 +63,7 @@ module _ (c : Call) (s : State) (f : ℕ) (rows : RefusesTable (s .table) f) whe
   -- where none holds, by the first of the others
   pub later-number : f ≡ 0 → (g : ℕ) → g ≡ firstRefusal (laterRows c s) → g ≡ refusal c s
   unfolding refusal tableRows badSize notWellFormed
-  later-number z g e = group-passes (tableRows (s .table)) (laterRows c s) f g refl (rows .tells) z e ∙ ap firstRefusal (rows-in-groups c s)
+  later-number z g e = group-passes (tableRows (s .table)) (laterRows c s) f g refl rows z e ∙ ap firstRefusal (rows-in-groups c s)
 
   -- and answers its number
   pub later-refuses : f ≡ 0 → (g : ℕ) → g ≡ firstRefusal (laterRows c s) → g ≢ 0 → Promise c s (Refused g) s
@@ -76,38 +72,35 @@ module _ (c : Call) (s : State) (f : ℕ) (rows : RefusesTable (s .table) f) whe
 -- ---- the check
 module _ (t : Table) (size : ℕ) (sized : size ≡ makeRefusal (t .n)) where
   -- the row on the size holds
-  pub size-refuses : size ≢ 0 → RefusesTable t size
+  pub size-refuses : size ≢ 0 → size ≡ firstRefusal (tableRows t)
   unfolding tableRows makeRefusal
-  size-refuses d = record { tells = group-refuses (badSize (t .n) ∷ []) (notWellFormed t ∷ []) size sized d; shaped = λ z. absurd (d z) }
+  size-refuses d = group-refuses (badSize (t .n) ∷ []) (notWellFormed t ∷ []) size sized d
 
-  module _ (fits : size ≡ 0) (well : Bool) (verdict : Verdict t well) where
-    -- the row on well-formed tables decides
-    checked-number : (g : ℕ) → g ≡ firstRefusal (notWellFormed t ∷ []) → g ≡ firstRefusal (tableRows t)
-    unfolding tableRows makeRefusal badSize
-    checked-number g e = group-passes (badSize (t .n) ∷ []) (notWellFormed t ∷ []) size g refl sized fits e
+  -- where it does not, that on well-formed tables decides
+  size-passes : size ≡ 0 → (g : ℕ) → g ≡ firstRefusal (notWellFormed t ∷ []) → g ≡ firstRefusal (tableRows t)
+  unfolding tableRows makeRefusal badSize
+  size-passes z g e = group-passes (badSize (t .n) ∷ []) (notWellFormed t ∷ []) size g refl sized z e
 
-    -- it holds
-    pub check-refuses : well ≡ false → RefusesTable t 2
-    unfolding notWellFormed
-    check-refuses e = record { tells = checked-number 2 (sym (first-here _ _ (ap not (sym (verdict .tells) ∙ e)))); shaped = λ z. absurd (omega arith) }
+  -- which holds
+  pub check-refuses : size ≡ 0 → wellFormed t ≡ false → 2 ≡ firstRefusal (tableRows t)
+  unfolding notWellFormed
+  check-refuses z e = size-passes z 2 (sym (first-here _ _ (ap not e)))
 
-    -- it does not
-    pub check-passes : well ≡ true → RefusesTable t 0
-    unfolding notWellFormed
-    check-passes e = record { tells = checked-number 0 (sym (first-later _ _ (ap not (sym (verdict .tells) ∙ e)) ∙ first-none)); shaped = λ z. verdict .shaped e }
+  -- or does not
+  pub check-passes : size ≡ 0 → wellFormed t ≡ true → 0 ≡ firstRefusal (tableRows t)
+  unfolding notWellFormed
+  check-passes z e = size-passes z 0 (sym (first-later _ _ (ap not e) ∙ first-none))
 
--- a table on which no row holds has passed the check
-pub table-checked : (t : Table) (f : ℕ) → RefusesTable t f → f ≡ 0 → Checked t
-unfolding tableRows badSize notWellFormed
-table-checked t f rows z = record {
-  formed = not-false (wellFormed t) (none-holds (tableRows t) refl (sym (rows .tells) ∙ z) .1 .0);
-  shaped = rows .shaped z;
-}
+module _ (t : Table) (f : ℕ) (rows : f ≡ firstRefusal (tableRows t)) (z : f ≡ 0) where
+  -- a table on which no row holds has passed the check
+  pub table-formed : wellFormed t ≡ true
+  unfolding tableRows badSize notWellFormed
+  table-formed = not-false (wellFormed t) (none-holds (tableRows t) refl (sym rows ∙ z) .1 .0)
 
--- and at most 32 threads
-pub table-few : (t : Table) (f : ℕ) → RefusesTable t f → f ≡ 0 → t .n ≤ 32
-unfolding tableRows badSize notWellFormed sizeInRange
-table-few t f rows z = leb-true (t .n) 32 (and-right (leb 1 (t .n)) (leb (t .n) 32) (not-false (sizeInRange (t .n)) (none-holds (tableRows t) refl (sym (rows .tells) ∙ z) .0)))
+  -- and at most 32 threads
+  pub table-few : t .n ≤ 32
+  unfolding tableRows badSize notWellFormed sizeInRange
+  table-few = leb-true (t .n) 32 (and-right (leb 1 (t .n)) (leb (t .n) 32) (not-false (sizeInRange (t .n)) (none-holds (tableRows t) refl (sym rows ∙ z) .0)))
 
 -- ---- the rows on a thread's number and the length of a store
 module _ (t : Table) (x words g : ℕ) (e : g ≡ firstRefusal (placeRows t x words)) (z : g ≡ 0) where
@@ -145,17 +138,17 @@ module _ (x : ℕ) (s : State) where
   cancel-lock-owned h d = sym (first-later _ _ (lt-leb (s .table .n) x h) ∙ first-here _ _ (ap not (ne-eqb (at (s .table) x .owner) nobody d)))
 
 -- ---- the rows of a report
-module _ (t : Table) (records f : ℕ) (rows : RefusesTable t f) where
+module _ (t : Table) (records f : ℕ) (rows : f ≡ firstRefusal (tableRows t)) where
   -- those on the table come first
   pub report-table : f ≢ 0 → f ≡ reportRefusal t records
   unfolding reportRefusal tableRows
-  report-table d = group-refuses (tableRows t) (badLength (t .n) records ∷ []) f (rows .tells) d
+  report-table d = group-refuses (tableRows t) (badLength (t .n) records ∷ []) f rows d
 
   module _ (z : f ≡ 0) where
     -- then the number of records
     report-length : (g : ℕ) → g ≡ firstRefusal (badLength (t .n) records ∷ []) → g ≡ reportRefusal t records
     unfolding reportRefusal tableRows badSize notWellFormed
-    report-length g e = group-passes (tableRows t) (badLength (t .n) records ∷ []) f g refl (rows .tells) z e
+    report-length g e = group-passes (tableRows t) (badLength (t .n) records ∷ []) f g refl rows z e
 
     -- which is wrong
     pub report-wrong-length : records ≢ t .n → 11 ≡ reportRefusal t records

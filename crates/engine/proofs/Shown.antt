@@ -1,7 +1,8 @@
 -- What making a table and the outcome call promise, by the code's tests.
-use mathlib.Core.Path.{_≡_, refl, sym, _∙_, ap}
+use mathlib.Core.Path.{_≡_, refl, sym, _∙_}
 use mathlib.Core.Logic.{_≢_}
-use mathlib.Core.List.{[], _∷_}
+use mathlib.Core.Bool.{true}
+use mathlib.Core.List.{[]}
 use Prim.Native.Nat.{ℕ, suc, _≤_, _<_}
 use lib.ListN.{take}
 use borrow.Author.Tests.{leb-true}
@@ -10,7 +11,7 @@ use Rattle.model.specs.declared.Table.{Table}
 use Rattle.model.specs.Answers.{SaidOutcome, shown}
 use Rattle.model.specs.Shared.{wordLimit}
 use Rattle.model.specs.Threads.{newTable, at, wordsAt}
-use Rattle.model.specs.WellFormed.{numbersInRange}
+use Rattle.model.specs.WellFormed.{numbersInRange, wellFormed}
 use Rattle.model.specs.Calls.{step, State}
 use Rattle.model.specs.Refusals.{unless, refusal, makeRefusal, outcomeRefusal}
 use Rattle.model.specs.Promise.{makeAnswer, madeTable, MakePromise, view, outcomeAnswer, outcomeWords}
@@ -18,7 +19,6 @@ use Rattle.model.proofs.Laws.{all-of-read}
 use Rattle.model.proofs.Tested.{well-formed-told}
 use Rattle.laws.proofs.Lists.{zero-or-not}
 use Rattle.laws.proofs.Refusals.{outcome-as-step}
-use Rattle.core.specs.Allowed.{Checked}
 
 -- ---- making a table
 module _ (n g : ℕ) (e : g ≡ makeRefusal n) where
@@ -60,7 +60,7 @@ module _ (s : State) (x g : ℕ) (e : g ≡ refusal (step x) s) where
     unfolding outcomeWords unless view
     words-shown = rw (number-is ∙ z) refl
 
--- a thread of a checked table has received at most eight words
-pub count-fits : (t : Table) → Checked t → (x : ℕ) → x < t .n → at t x .outcome .count ≤ wordLimit
+-- a thread of a well-formed table has received at most eight words
+pub count-fits : (t : Table) → wellFormed t ≡ true → (x : ℕ) → x < t .n → at t x .outcome .count ≤ wordLimit
 unfolding numbersInRange
-count-fits t k x below = leb-true (at t x .outcome .count) wordLimit (all-of-read _ (well-formed-told t (k .formed) .numbers x below) .1 .1 .1 .1 .1 .1 .1 .1 .1 .1 .0)
+count-fits t formed x below = leb-true (at t x .outcome .count) wordLimit (all-of-read _ (well-formed-told t formed .numbers x below) .1 .1 .1 .1 .1 .1 .1 .1 .1 .1 .0)

@@ -6,8 +6,9 @@ ghost use lib.ListN.{getD};
 ghost use Rattle.model.specs.declared.Answer.the-variants.{Refused};
 ghost use Rattle.model.specs.Answers.{saidOutcome};
 ghost use Rattle.model.specs.Calls.{Call};
+ghost use Rattle.model.specs.Refusals.{firstRefusal};
 ghost use Rattle.model.specs.Promise.{state, Promise, MakePromise, outcomeAnswer, outcomeWords};
-ghost use Rattle.engine.specs.Tables.{RefusesTable};
+ghost use Rattle.refusals.specs.Rows.{tableRows};
 ghost use Rattle.engine.specs.Report.{zeroOutcome, OutcomesUpTo, Reported};
 use model::Answer;
 use model::Operation;
@@ -35,7 +36,7 @@ fn refuse(number: u8, table: Table) -> Returned
 
 // The rows on the table: its size, and whether it is well-formed.
 fn table_refusal(table: Table) -> u8
-    ensures { λ r. ⌜ RefusesTable table r ⌝ }
+    ensures { λ r. ⌜ r ≡ firstRefusal (tableRows table) ⌝ }
 {
     let size = refusals::size_refusal(table.n);
     if size != 0 {

@@ -7,3 +7,4 @@ pub mod Copies
 pub mod Formed
 pub mod Neighbours
 pub mod Receivers
+pub mod Shape

@@ -72,12 +72,12 @@ fn in_release(x: u8, own: Thread, other: Thread) -> Changed
 {
     let flags = own.flags;
     if flags.send {
-        return actions::free_target(actions::SLEEP, own, other);
+        return actions::free_target(threads::SLEEP, own, other);
     }
     if flags.ipc {
-        return actions::free_target(actions::LOOK, own, other);
+        return actions::free_target(threads::LOOK, own, other);
     }
-    actions::free_target(actions::IDLE, own, other)
+    actions::free_target(threads::IDLE, own, other)
 }
 
 // Sleep: go to lock if poll is clear, or marked, or no time is left.

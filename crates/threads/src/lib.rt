@@ -1,7 +1,7 @@
 // Functions on one thread: each returns what a definition of the model says.
 ghost use mathlib.Core.Path.{_≡_};
-ghost use Rattle.model.specs.Shared.{isFailure, codeOnly, tickCount, fall, hasReceive, receiveTime, accepts};
-ghost use Rattle.model.specs.Threads.{noFlags, ended, marked, withoutReceive, lockFree, ready};
+ghost use Rattle.model.specs.Shared.{isFailure, codeOnly, tickCount, fall, hasReceive, receiveTime, accepts, closedOn};
+ghost use Rattle.model.specs.Threads.{noFlags, ended, marked, withoutReceive, ready};
 ghost use Rattle.model.specs.Calls.{ticked};
 use model::Flags;
 use model::Operation;
@@ -25,6 +25,31 @@ pub const SEND_TIME_OVER: i32 = -4;
 pub const RECEIVE_CANCELLED: i32 = -5;
 
 pub const SEND_CANCELLED: i32 = -6;
+
+// The phases by their numbers.
+pub const IDLE: u8 = 0;
+
+pub const LOCK: u8 = 1;
+
+pub const CHECK: u8 = 2;
+
+pub const COPY: u8 = 3;
+
+pub const RELEASE: u8 = 4;
+
+pub const SLEEP: u8 = 5;
+
+pub const LOOK: u8 = 6;
+
+pub const WAKE: u8 = 7;
+
+pub const UNLOCK: u8 = 8;
+
+// The most words of a message.
+pub const WORD_LIMIT: u8 = 8;
+
+// The largest time code.
+pub const LAST_TIME_CODE: u8 = 15;
 
 // Source 255 means none; a lock's owner 255 is none too.
 pub const NOBODY: u8 = 255;
@@ -74,7 +99,7 @@ pub fn code_only(code: i32) -> Outcome
 pub fn tick_count(code: u8) -> u16
     ensures { λ r. ⌜ r ≡ tickCount code ⌝ }
 {
-    if 15 < code {
+    if LAST_TIME_CODE < code {
         return 0;
     }
     let i = code as usize;
@@ -127,33 +152,25 @@ pub fn accepts_from(receive: Receive, s: u8) -> bool
     }
 }
 
+// A receive part that is closed on s.
+pub fn closed_on(receive: Receive, s: u8) -> bool
+    ensures { λ r. ⌜ r ≡ closedOn receive s ⌝ }
+{
+    match receive {
+        Receive::Absent => false,
+        Receive::Open(_) => false,
+        Receive::Closed(w) => w.partner == s,
+    }
+}
+
 // Document 01's "ready" for s.
 pub fn is_ready(h: Thread, s: u8) -> bool
     ensures { λ r. ⌜ r ≡ ready h s ⌝ }
 {
     let flags = h.flags;
-    if !flags.ipc {
-        return false;
-    }
-    if !flags.receiving {
-        return false;
-    }
-    if flags.send {
-        return false;
-    }
-    if flags.mark {
-        return false;
-    }
     let op = h.op;
     let receive = op.receive;
-    accepts_from(receive, s)
-}
-
-// Nobody owns the thread's lock.
-pub fn lock_is_free(h: Thread) -> bool
-    ensures { λ r. ⌜ r ≡ lockFree h ⌝ }
-{
-    h.owner == NOBODY
+    flags.ipc & flags.receiving & !flags.send & !flags.mark & accepts_from(receive, s)
 }
 
 // No flag.

@@ -14,7 +14,7 @@ use Rattle.model.specs.Shared.{codes, sameCode}
 use Rattle.model.specs.WellFormed.{isCode}
 use Rattle.model.proofs.Laws.{by, alike-read, all-below-read}
 use Rattle.laws.proofs.Codes.{code-itself, code-is}
-use Rattle.threadtests.proofs.Tests.{same-test}
+use Rattle.laws.proofs.Tests.{same-test}
 
 -- codes have the same bits exactly where they are the same
 pub same-bits : (a z : ℤ) → SFits w32 a → SFits w32 z → eqb (ofZ w32 z) (ofZ w32 a) ≡ sameCode a z

@@ -7,7 +7,7 @@ use lib.ListN.{List·getD-eq-default}
 use lib.Dec.{eqb, ltb}
 use borrow.Author.Tests.{ltb-true, ltb-false, ne-eqb}
 use Rattle.model.specs.Shared.{nobody}
-use Rattle.model.specs.Threads.{phases, unknown, phaseOf, lockHeldIn}
+use Rattle.model.specs.Threads.{phases, check, copy, release, wake, unlock, unknown, phaseOf, phaseNumber, lockHeldIn}
 use Rattle.model.proofs.Laws.{by, same?, _and_}
 
 -- P of each number below n
@@ -22,9 +22,11 @@ each-below (suc n) P h k l = same? k n (λ e. rw e (h .0)) (λ d. each-below n P
 
 -- check, copy and release hold the target's lock, wake and unlock that of the sender being woken, and no other phase holds one
 abbrev pub heldBy : ℕ → ℕ → ℕ → ℕ
-heldBy k target waking = cond (eqb k 2 || eqb k 3 || eqb k 4) target (cond (eqb k 7 || eqb k 8) waking nobody)
+heldBy k target waking =
+    cond (eqb k (phaseNumber check) || eqb k (phaseNumber copy) || eqb k (phaseNumber release)) target
+    (cond (eqb k (phaseNumber wake) || eqb k (phaseNumber unlock)) waking nobody)
 
--- so the model says
+-- the model's definition says the same
 pub lock-held-by : (k target waking : ℕ) → lockHeldIn (phaseOf k) target waking ≡ heldBy k target waking
 unfolding phaseOf
 lock-held-by k target waking = by (ltb k 9)

@@ -1,4 +1,3 @@
-pub mod Tests
 pub mod Codes
 pub mod Held
 pub mod Alone

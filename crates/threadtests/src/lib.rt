@@ -1,6 +1,6 @@
 // Tests of one thread by itself, and whom it sends to, copies to and locks: each returns what a definition says.
 ghost use mathlib.Core.Path.{_≡_};
-ghost use Rattle.model.specs.Shared.{codes, closedOn};
+ghost use Rattle.model.specs.Shared.{codes};
 ghost use Rattle.model.specs.Threads.{lockHeld};
 ghost use Rattle.model.specs.WellFormed.{isCode, sendInRange, receiveInRange};
 ghost use Rattle.formed.proofs.Flags.{flagsFit};
@@ -14,82 +14,66 @@ use model::Queue;
 use model::Receive;
 use model::SendPart;
 use model::Thread;
+use threads::CHECK;
+use threads::COPY;
 use threads::DONE;
+use threads::IDLE;
+use threads::LAST_TIME_CODE;
+use threads::LOCK;
+use threads::LOOK;
 use threads::NEVER;
 use threads::NEVER_BEGUN;
 use threads::NO_RECEIVER;
 use threads::NOBODY;
+use threads::RELEASE;
 use threads::RUNNING;
 use threads::SEND_CANCELLED;
+use threads::SLEEP;
+use threads::UNLOCK;
+use threads::WAKE;
+use threads::WORD_LIMIT;
 
-// The phases by their numbers.
-const IDLE: u8 = 0;
-
-const LOCK: u8 = 1;
-
-const CHECK: u8 = 2;
-
-const COPY: u8 = 3;
-
-const RELEASE: u8 = 4;
-
-const SLEEP: u8 = 5;
-
-const LOOK: u8 = 6;
-
-const WAKE: u8 = 7;
-
-const UNLOCK: u8 = 8;
+// The most ticks that left can hold, never apart.
+const MOST_TICKS: u16 = 20000;
 
 // A code of document 01: 0 to 2, or a failure, -6 to -2.
 fn is_code(code: i32) -> bool
     ensures { λ r. ⌜ r ≡ isCode codes code ⌝ }
 {
-    (DONE <= code) & (code <= NEVER_BEGUN) | (SEND_CANCELLED <= code) & (code <= NO_RECEIVER)
+    ((DONE <= code) & (code <= NEVER_BEGUN)) | ((SEND_CANCELLED <= code) & (code <= NO_RECEIVER))
 }
 
-// The outcome of a thread, with ipc as given.
+// The outcome's numbers are in range; its code is 1 exactly with ipc; source and count are bare unless it is 0.
 fn outcome_fits(n: u8, ipc: bool, outcome: Outcome) -> bool
     ensures { λ r. ⌜ r ≡ outcomeFits n ipc outcome ⌝ }
 {
     let code = outcome.code;
     is_code(code)
         & ((outcome.source == NOBODY) | (outcome.source < n))
-        & (outcome.count <= 8)
+        & (outcome.count <= WORD_LIMIT)
         & (ipc == (code == RUNNING))
-        & ((code == DONE) | (outcome.source == NOBODY) & (outcome.count == 0))
+        & ((code == DONE) | ((outcome.source == NOBODY) & (outcome.count == 0)))
 }
 
-// The numbers of a send part.
+// The numbers of a send part that is there are in range.
 fn send_in_range(n: u8, send: SendPart) -> bool
     ensures { λ r. ⌜ r ≡ sendInRange n send ⌝ }
 {
-    !send.present | (send.target < n) & (send.count <= 8) & (send.time <= 15)
+    !send.present | ((send.target < n) & (send.count <= WORD_LIMIT) & (send.time <= LAST_TIME_CODE))
 }
 
-// The numbers of a receive part.
+// The numbers of a receive part that is there are in range.
 fn receive_in_range(n: u8, receive: Receive) -> bool
     ensures { λ r. ⌜ r ≡ receiveInRange n receive ⌝ }
 {
     match receive {
         Receive::Absent => true,
-        Receive::Open(w) => w.time <= 15,
-        Receive::Closed(w) => (w.time <= 15) & (w.partner < n),
+        Receive::Open(w) => w.time <= LAST_TIME_CODE,
+        Receive::Closed(w) => (w.time <= LAST_TIME_CODE) & (w.partner < n),
     }
 }
 
-// A receive part that is closed on x.
-fn is_closed_on(receive: Receive, x: u8) -> bool
-    ensures { λ r. ⌜ r ≡ closedOn receive x ⌝ }
-{
-    match receive {
-        Receive::Absent => false,
-        Receive::Open(_) => false,
-        Receive::Closed(w) => w.partner == x,
-    }
-}
-
-// The operation and left of thread x, with ipc as given.
+// The numbers of an operation that runs, and left, are in range; thread x is neither its target nor its partner.
 fn operation_fits(n: u8, x: u8, ipc: bool, op: Operation, left: u16) -> bool
     ensures { λ r. ⌜ r ≡ operationFits n x ipc op left ⌝ }
 {
@@ -100,12 +84,12 @@ fn operation_fits(n: u8, x: u8, ipc: bool, op: Operation, left: u16) -> bool
     let receive = op.receive;
     send_in_range(n, send)
         & receive_in_range(n, receive)
-        & ((left <= 20000) | (left == NEVER))
+        & ((left <= MOST_TICKS) | (left == NEVER))
         & (!send.present | !(send.target == x))
-        & !is_closed_on(receive, x)
+        & !threads::closed_on(receive, x)
 }
 
-// The numbers that thread x uses in its phase.
+// The numbers that thread x uses in its phase are in range: the target that release frees, the words copied, the sender being woken.
 fn phase_fits(n: u8, x: u8, phase: u8, send: SendPart, copied: u8, waking: u8) -> bool
     ensures { λ r. ⌜ r ≡ phaseFits n x phase send copied waking ⌝ }
 {
@@ -115,7 +99,7 @@ fn phase_fits(n: u8, x: u8, phase: u8, send: SendPart, copied: u8, waking: u8) -
         & (!((phase == WAKE) | (phase == UNLOCK)) | (waking < n))
 }
 
-// The phase and the flags, with a receive part and a send part or without.
+// The phase and the flags go together, in an operation with a receive part and a send part or without.
 fn flags_fit(phase: u8, flags: Flags, receives: bool, sends: bool) -> bool
     ensures { λ r. ⌜ r ≡ flagsFit phase flags receives sends ⌝ }
 {
@@ -131,14 +115,14 @@ fn flags_fit(phase: u8, flags: Flags, receives: bool, sends: bool) -> bool
         & (!(phase == RELEASE) | sends)
 }
 
-// The queue and the lock of a thread.
+// The queue is short enough, and the owner of the lock is a thread of the table or nobody.
 fn queue_fits(n: u8, queue: Queue, owner: u8) -> bool
     ensures { λ r. ⌜ r ≡ queueFits n queue owner ⌝ }
 {
     (queue.len <= 32) & ((owner == NOBODY) | (owner < n))
 }
 
-// Thread x, which is h, by itself.
+// Thread x, which is h, is well-formed by itself.
 pub fn thread_alone(n: u8, x: u8, h: Thread) -> bool
     ensures { λ r. ⌜ r ≡ ownFits n x h ⌝ }
 {

@@ -2,7 +2,7 @@
 use mathlib.Core.Path.{_≡_, refl, sym, ap, subst, _∙_}
 use mathlib.Core.Logic.{_≢_}
 use mathlib.Core.Bool.{Bool, true, false, not}
-use Prim.Native.Nat.{ℕ, zero, suc, _+_, _-_, _≤_, _<_}
+use Prim.Native.Nat.{ℕ, zero, suc, _+_, _≤_, _<_}
 use native.Mathlib.Numerals.{add-one}
 use native.Mathlib.Omega.{arith}
 use lib.Dec.{eqb, ltb}
@@ -12,7 +12,7 @@ use Rattle.model.specs.Shared.{nobody}
 use Rattle.model.specs.WellFormed.{chain}
 use Rattle.model.proofs.Laws.{by, same?, all-below-read, all-below-made}
 use Rattle.formed.proofs.Locks.{within}
-use Rattle.wellformed.proofs.Below.{all-below-fails, all-below-more}
+use Rattle.wellformed.proofs.Below.{all-below-fails, all-below-more, all-below-end}
 use Rattle.wellformed.specs.Links.{chainEnds}
 
 -- the owner that the chain from r has after k others is not r
@@ -69,4 +69,4 @@ module _ {n : ℕ} {owner : ℕ → ℕ} {r k o : ℕ} (F : Followed n owner r k
   -- n owners were followed
   pub followed-all : k ≡ n → true ≡ chainEnds n owner r
   unfolding chainEnds
-  followed-all e = sym (subst (λ (m : ℕ). allBelow m (apart n owner r) ≡ true) e (F .passed))
+  followed-all e = all-below-end n (apart n owner r) k (F .passed) e

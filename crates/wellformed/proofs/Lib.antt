@@ -1,4 +1,3 @@
-pub mod Shape
 pub mod Below
 pub mod Entering
 pub mod Chains

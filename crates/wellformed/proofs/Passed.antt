@@ -21,8 +21,8 @@ use Rattle.formed.proofs.Own.{Own}
 use Rattle.formed.proofs.Facts.{target-other}
 use Rattle.formed.proofs.Formed.{of, owner, copiesTo, Formed}
 use Rattle.threadtests.specs.Alone.{targetOf}
-use Rattle.wellformed.specs.Links.{entry, linkFits}
-use Rattle.wellformed.specs.Waiting.{Free, Entering}
+use Rattle.wellformed.specs.Links.{numberAt, linkFits}
+use Rattle.wellformed.specs.Waiting.{Free, Entered}
 use Rattle.wellformed.proofs.Waits.{Waits, waits-none, waits-more, waits-free, waits-queues, queues-waits}
 use Rattle.wellformed.proofs.Links.{Linked, links-told, links-made, linked-same}
 
@@ -30,7 +30,7 @@ use Rattle.wellformed.proofs.Links.{Linked, links-told, links-made, lin
 -- what f says of the first k threads is in the array l
 pub record Gathered (f : ℕ → ℕ) (k : ℕ) (l : List ℕ) : Type 0 where
   pub whole : length l ≡ 32
-  pub read : (x : ℕ) → x < k → entry l x ≡ f x
+  pub read : (x : ℕ) → x < k → numberAt l x ≡ f x
 
 -- one thread more
 gathered-more : (f : ℕ → ℕ) (k : ℕ) (l : List ℕ) → k < 32 → Gathered f k l → Gathered f (suc k) (set l k (f k))
@@ -60,10 +60,14 @@ pub record Passed (t : Table) (k : ℕ) (targets owners held waits : List ℕ) :
   pub sending : Gathered (of targetOf (at t)) k targets
   pub owning : Gathered (of owner (at t)) k owners
   pub holding : Gathered (of lockHeld (at t)) k held
-  pub waiting : Waits (t .n) k (of senders (at t)) (entry waits)
+  pub waiting : Waits (t .n) k (of senders (at t)) (numberAt waits)
   pub places : length waits ≡ 32
 
 module _ (t : Table) (few : t .n ≤ 32) where
+  -- each thread sends to its target, and to no other
+  to-target : (s r : ℕ) → r < t .n → sendsTo (at t s) r ≡ eqb (targetOf (at t s)) r
+  to-target s r rn = sends-target (at t s) r (omega arith)
+
   -- none yet
   pub passed-none : Passed t 0 (replicate 32 nobody) (replicate 32 nobody) (replicate 32 nobody) (replicate 32 nobody)
   passed-none = record {
@@ -78,7 +82,7 @@ module _ (t : Table) (few : t .n ≤ 32) where
 
   module _ {k : ℕ} {targets owners held waits : List ℕ} (P : Passed t k targets owners held waits) where
     -- one more
-    pub passed-more : (to : ℕ) (now : List ℕ) → k < t .n → Own (t .n) k (at t k) → to ≡ copiesTo (at t k) → (to < t .n → ready (at t to) k ≡ true) → Entering (t .n) k (senders (at t k)) waits now
+    pub passed-more : (to : ℕ) (now : List ℕ) → k < t .n → Own (t .n) k (at t k) → to ≡ copiesTo (at t k) → (to < t .n → ready (at t to) k ≡ true) → Entered (t .n) k (senders (at t k)) waits now
         → Passed t (k + 1) (set targets k (targetOf (at t k))) (set owners k (at t k .owner)) (set held k (lockHeld (at t k))) now
     passed-more to now kn w i copy E = rw add-one (record {
       own = λ x xn. same? x k (λ e. rw e w) (λ d. P .own x (omega arith));
@@ -86,36 +90,36 @@ module _ (t : Table) (few : t .n ≤ 32) where
       sending = gathered-more (of targetOf (at t)) k targets (omega arith) (P .sending);
       owning = gathered-more (of owner (at t)) k owners (omega arith) (P .owning);
       holding = gathered-more (of lockHeld (at t)) k held (omega arith) (P .holding);
-      waiting = waits-more (t .n) (omega arith) _ k kn (entry waits) (entry now) (P .waiting) (E .free) (E .now);
+      waiting = waits-more (t .n) (omega arith) _ k kn (numberAt waits) (numberAt now) (P .waiting) (E .free) (E .now);
       places = E .whole;
     })
 
     -- in a well-formed table the next queue's senders are free
-    pub next-free : Formed (t .n) (at t) → k < t .n → Free (t .n) (entry waits) (senders (at t k))
-    next-free F kn = waits-free (t .n) (omega arith) _ (of sendsTo (at t)) (of targetOf (at t)) (λ s r rn. sends-target (at t s) r (omega arith)) k (entry waits) (P .waiting) (F .queues) kn
+    pub next-free : Formed (t .n) (at t) → k < t .n → Free (t .n) (numberAt waits) (senders (at t k))
+    next-free F kn = waits-free (t .n) (omega arith) _ _ _ to-target k (numberAt waits) (P .waiting) (F .queues) kn
 
   -- ---- all threads
   module _ {targets owners held waits : List ℕ} (P : Passed t (t .n) targets owners held waits) where
     -- what is gathered fits together: the table is well-formed
-    pub passed-formed : allBelow (t .n) (linkFits (t .n) (entry waits) (entry targets) (entry owners) (entry held)) ≡ true → Formed (t .n) (at t)
+    pub passed-formed : allBelow (t .n) (linkFits (t .n) (numberAt waits) (numberAt targets) (numberAt owners) (numberAt held)) ≡ true → Formed (t .n) (at t)
     passed-formed e = record {
       few = few;
       own = P .own;
-      queues = waits-queues (t .n) (omega arith) _ (of sendsTo (at t)) (of targetOf (at t)) (λ s r rn. sends-target (at t s) r (omega arith)) (entry waits) (P .waiting) (L .waiting);
+      queues = waits-queues (t .n) (omega arith) _ _ _ to-target (numberAt waits) (P .waiting) (L .waiting);
       owners = L .owners;
       chains = L .chains;
       copies = P .copies;
     }
       where
-        L : Linked (t .n) (entry waits) (of targetOf (at t)) (of owner (at t)) (of lockHeld (at t))
+        L : Linked (t .n) (numberAt waits) (of targetOf (at t)) (of owner (at t)) (of lockHeld (at t))
         L = linked-same (t .n) _ _ _ _ _ _ _ (P .sending .read) (P .owning .read) (P .holding .read) (links-told (t .n) (omega arith) _ _ _ _ e)
 
     -- the table is well-formed: what is gathered fits together
-    pub formed-passed : Formed (t .n) (at t) → allBelow (t .n) (linkFits (t .n) (entry waits) (entry targets) (entry owners) (entry held)) ≡ true
-    formed-passed F = links-made (t .n) (omega arith) _ _ _ _ (linked-same (t .n) (entry waits) (of targetOf (at t)) (of owner (at t)) (of lockHeld (at t)) _ _ _
+    pub formed-passed : Formed (t .n) (at t) → allBelow (t .n) (linkFits (t .n) (numberAt waits) (numberAt targets) (numberAt owners) (numberAt held)) ≡ true
+    formed-passed F = links-made (t .n) (omega arith) _ _ _ _ (linked-same (t .n) (numberAt waits) (of targetOf (at t)) (of owner (at t)) (of lockHeld (at t)) _ _ _
         (λ x xn. sym (P .sending .read x xn)) (λ x xn. sym (P .owning .read x xn)) (λ x xn. sym (P .holding .read x xn))
         (record {
-          waiting = queues-waits (t .n) (omega arith) _ (of sendsTo (at t)) (of targetOf (at t)) (λ s r rn. sends-target (at t s) r (omega arith)) (entry waits) (P .waiting)
+          waiting = queues-waits (t .n) (omega arith) _ _ _ to-target (numberAt waits) (P .waiting)
               (λ s sn. target-small (F .own s sn)) (F .queues);
           owners = F .owners;
           chains = F .chains;

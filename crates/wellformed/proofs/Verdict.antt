@@ -1,4 +1,4 @@
--- From what the code finds to the verdict.
+-- From what the code finds to what the test says.
 use mathlib.Core.Path.{_≡_, sym, _∙_}
 use mathlib.Core.Bool.{true≢false, false≢true, Bool, true, false}
 use mathlib.Core.List.{List}
@@ -14,20 +14,16 @@ use Rattle.model.proofs.Tested.{well-formed-tested, well-formed-told}
 use Rattle.formed.proofs.Formed.{copiesTo, Formed, formed-grouped, formed-ungrouped}
 use Rattle.threadtests.specs.Alone.{ownFits}
 use Rattle.threadtests.proofs.Alone.{own-tested}
-use Rattle.wellformed.specs.Links.{entry, linkFits}
+use Rattle.wellformed.specs.Links.{numberAt, linkFits}
 use Rattle.wellformed.specs.Waiting.{Free}
-use Rattle.wellformed.specs.Verdict.{Verdict}
 use Rattle.wellformed.proofs.Passed.{Passed, next-free, passed-formed, formed-passed}
 
 -- a table that is not well-formed
-refused : (t : Table) → (WellFormed t → ⊥) → Verdict t false
-refused t wrong = record {
-  tells = by (wellFormed t) (λ e. absurd (wrong (well-formed-told t e))) sym;
-  shaped = λ e. absurd (false≢true e);
-}
+refused : (t : Table) → (WellFormed t → ⊥) → false ≡ wellFormed t
+refused t wrong = by (wellFormed t) (λ e. absurd (wrong (well-formed-told t e))) sym
 
 -- its size is wrong
-pub size-refused : (t : Table) → (1 ≤ t .n → t .n ≤ 32 → ⊥) → Verdict t false
+pub size-refused : (t : Table) → (1 ≤ t .n → t .n ≤ 32 → ⊥) → false ≡ wellFormed t
 unfolding sizeInRange
 size-refused t wrong = refused t (λ w. wrong
     (leb-true 1 (t .n) (and-left (leb 1 (t .n)) (leb (t .n) 32) (w .size)))
@@ -35,32 +31,29 @@ size-refused t wrong = refused t (λ w. wrong
 
 module _ (t : Table) (z : Shaped t) where
   -- its threads are not well-formed
-  not-formed : (Formed (t .n) (at t) → ⊥) → Verdict t false
+  not-formed : (Formed (t .n) (at t) → ⊥) → false ≡ wellFormed t
   not-formed wrong = refused t (λ w. wrong (formed-grouped t w z))
 
   -- thread x is not well-formed by itself
-  pub alone-refused : (x : ℕ) → x < t .n → ownFits (t .n) x (at t x) ≡ false → Verdict t false
+  pub alone-refused : (x : ℕ) → x < t .n → ownFits (t .n) x (at t x) ≡ false → false ≡ wellFormed t
   alone-refused x xn e = not-formed (λ F. true≢false (sym (own-tested (t .n) x (at t x) (F .own x xn)) ∙ e))
 
   -- thread x copies to one that is not ready
-  pub copy-refused : (x to : ℕ) → x < t .n → to ≡ copiesTo (at t x) → to < t .n → ready (at t to) x ≡ false → Verdict t false
+  pub copy-refused : (x to : ℕ) → x < t .n → to ≡ copiesTo (at t x) → to < t .n → ready (at t to) x ≡ false → false ≡ wellFormed t
   copy-refused x to xn i l e = not-formed (λ F. true≢false (sym (F .copies x xn (rw (← i) l)) ∙ rw (← i) e))
 
-  module _ (some : 1 ≤ t .n) (few : t .n ≤ 32) where
-    -- the senders of thread k are not free
-    pub queue-refused : {k : ℕ} {targets owners held waits : List ℕ} → Passed t k targets owners held waits → k < t .n → (Free (t .n) (entry waits) (senders (at t k)) → ⊥) → Verdict t false
-    queue-refused P kn clash = not-formed (λ F. clash (next-free t few P F kn))
+  -- the senders of thread k are not free
+  pub queue-refused : t .n ≤ 32 → {k : ℕ} {targets owners held waits : List ℕ} → Passed t k targets owners held waits → k < t .n → (Free (t .n) (numberAt waits) (senders (at t k)) → ⊥) → false ≡ wellFormed t
+  queue-refused few P kn clash = not-formed (λ F. clash (next-free t few P F kn))
 
+  module _ (some : 1 ≤ t .n) (few : t .n ≤ 32) where
     -- its threads are well-formed
-    formed : Formed (t .n) (at t) → Verdict t true
+    formed : Formed (t .n) (at t) → true ≡ wellFormed t
     unfolding sizeInRange
-    formed F = record {
-      tells = sym (well-formed-tested t (formed-ungrouped t (and-made (leb 1 (t .n)) (leb (t .n) 32) (le-leb 1 (t .n) some) (le-leb (t .n) 32 few)) F));
-      shaped = λ e. z;
-    }
+    formed F = sym (well-formed-tested t (formed-ungrouped t (and-made (leb 1 (t .n)) (leb (t .n) 32) (le-leb 1 (t .n) some) (le-leb (t .n) 32 few)) F))
 
     -- all threads passed, and it is told whether what was gathered fits together
     pub links-verdict : {targets owners held waits : List ℕ} → Passed t (t .n) targets owners held waits
-        → (b : Bool) → b ≡ allBelow (t .n) (linkFits (t .n) (entry waits) (entry targets) (entry owners) (entry held)) → Verdict t b
+        → (b : Bool) → b ≡ allBelow (t .n) (linkFits (t .n) (numberAt waits) (numberAt targets) (numberAt owners) (numberAt held)) → b ≡ wellFormed t
     links-verdict P true e = formed (passed-formed t few P (sym e))
     links-verdict P false e = not-formed (λ F. false≢true (e ∙ formed-passed t few P F))

@@ -8,11 +8,11 @@ use Rattle.model.specs.Lists.{implies, allOf, allBelow}
 use Rattle.model.specs.WellFormed.{chain}
 use Rattle.formed.proofs.Locks.{within}
 
--- what an array says of thread x
-abbrev pub entry : List ℕ → ℕ → ℕ
-entry l x = getD l x 0
+-- the number that an array has for thread x
+abbrev pub numberAt : List ℕ → ℕ → ℕ
+numberAt l x = getD l x 0
 
--- if there is a thread of the table, it points back to r
+-- a thread of the table to which r points, there, points back to r
 unfoldable pub pointsBack : ℕ → (ℕ → ℕ) → ℕ → ℕ → Bool
 pointsBack n back there r = implies (ltb there n) (eqb (back there) r)
 

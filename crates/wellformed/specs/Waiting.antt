@@ -7,7 +7,7 @@ use lib.ListN.{length}
 use lib.Dec.{eqb}
 use Rattle.model.specs.Lists.{bit, occurs}
 use Rattle.model.specs.Shared.{nobody}
-use Rattle.wellformed.specs.Links.{entry}
+use Rattle.wellformed.specs.Links.{numberAt}
 
 -- the senders q are threads of the table that wait nowhere yet, each there once
 pub record Free (n : ℕ) (waits : ℕ → ℕ) (q : List ℕ) : Type 0 where
@@ -19,12 +19,12 @@ unfoldable pub waitingAt : ℕ → List ℕ → (ℕ → ℕ) → ℕ → ℕ
 waitingAt r q waits s = cond (eqb (occurs s q) 0) (waits s) r
 
 -- the senders q of thread r, all of them free, are entered
-pub record Entering (n r : ℕ) (q before after : List ℕ) : Type 0 where
-  pub free : Free n (entry before) q
-  pub now : (s : ℕ) → entry after s ≡ waitingAt r q (entry before) s
+pub record Entered (n r : ℕ) (q before after : List ℕ) : Type 0 where
+  pub free : Free n (numberAt before) q
+  pub now : (s : ℕ) → numberAt after s ≡ waitingAt r q (numberAt before) s
   pub whole : length after ≡ 32
 
--- what the code tells of them: they are entered, or they are not free
-pub record Entered (n r : ℕ) (q before after : List ℕ) (fit : Bool) : Type 0 where
-  pub yes : fit ≡ true → Entering n r q before after
-  pub no : fit ≡ false → Free n (entry before) q → ⊥
+-- whether they are entered: if not, they are not free
+pub record EnteredOrNot (n r : ℕ) (q before after : List ℕ) (b : Bool) : Type 0 where
+  pub yes : b ≡ true → Entered n r q before after
+  pub no : b ≡ false → Free n (numberAt before) q → ⊥

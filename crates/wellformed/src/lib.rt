@@ -4,9 +4,9 @@ ghost use Prim.Native.Nat.{_≤_, _<_};
 ghost use lib.ListN.{length};
 ghost use Rattle.model.specs.Lists.{allBelow};
 ghost use Rattle.model.specs.Threads.{senders};
-ghost use Rattle.wellformed.specs.Links.{entry, pointsBack, chainEnds, linkFits};
-ghost use Rattle.wellformed.specs.Waiting.{Entered};
-ghost use Rattle.wellformed.specs.Verdict.{Verdict};
+ghost use Rattle.model.specs.WellFormed.{wellFormed};
+ghost use Rattle.wellformed.specs.Links.{numberAt, pointsBack, chainEnds, linkFits};
+ghost use Rattle.wellformed.specs.Waiting.{EnteredOrNot};
 use model::Table;
 use model::Thread;
 use threads::NOBODY;
@@ -14,7 +14,7 @@ use threads::NOBODY;
 // Enters in waits that the waiting senders of thread r, which is h, wait at r, and tells whether each is a thread of the table that waited nowhere.
 fn enter_senders(n: u8, r: u8, h: Thread, waits: &mut [u8; 32]) -> bool
     requires { ⌜ (n ≤ 32) × (r < n) × (h .queue .len ≤ 32) × (length (now waits) ≡ 32) ⌝ }
-    ensures { λ b. ⌜ Entered n r (senders h) (now (waits .entry)) (now (waits .exit)) b ⌝ }
+    ensures { λ b. ⌜ EnteredOrNot n r (senders h) (now (waits .entry)) (now (waits .exit)) b ⌝ }
 {
     let queue = h.queue;
     let items = queue.items;
@@ -36,10 +36,10 @@ fn enter_senders(n: u8, r: u8, h: Thread, waits: &mut [u8; 32]) -> bool
     true
 }
 
-// If there is a thread of the table, it points back to r.
+// A thread of the table to which r points, there, points back to r.
 fn points_back(n: u8, back: &[u8; 32], there: u8, r: u8) -> bool
     requires { ⌜ n ≤ 32 ⌝ }
-    ensures { λ b. ⌜ b ≡ pointsBack n (entry (now (back .entry))) there r ⌝ }
+    ensures { λ b. ⌜ b ≡ pointsBack n (numberAt (now (back .entry))) there r ⌝ }
 {
     if n <= there {
         return true;
@@ -48,10 +48,10 @@ fn points_back(n: u8, back: &[u8; 32], there: u8, r: u8) -> bool
     back[i] == r
 }
 
-// The chain of lock owners from thread r does not come back.
+// The chain of lock owners from thread r does not come back to it.
 fn chain_ends(n: u8, owners: &[u8; 32], r: u8) -> bool
     requires { ⌜ (n ≤ 32) × (r < n) ⌝ }
-    ensures { λ b. ⌜ b ≡ chainEnds n (entry (now (owners .entry))) r ⌝ }
+    ensures { λ b. ⌜ b ≡ chainEnds n (numberAt (now (owners .entry))) r ⌝ }
 {
     let i = r as usize;
     let mut owner = owners[i];
@@ -80,7 +80,7 @@ fn link_fits(
     r: u8,
 ) -> bool
     requires { ⌜ (n ≤ 32) × (r < n) ⌝ }
-    ensures { λ b. ⌜ b ≡ linkFits n (entry (now (waits .entry))) (entry (now (targets .entry))) (entry (now (owners .entry))) (entry (now (held .entry))) r ⌝ }
+    ensures { λ b. ⌜ b ≡ linkFits n (numberAt (now (waits .entry))) (numberAt (now (targets .entry))) (numberAt (now (owners .entry))) (numberAt (now (held .entry))) r ⌝ }
 {
     let i = r as usize;
     (waits[i] == targets[i])
@@ -98,7 +98,7 @@ fn links_fit(
     held: &[u8; 32],
 ) -> bool
     requires { ⌜ n ≤ 32 ⌝ }
-    ensures { λ b. ⌜ b ≡ allBelow n (linkFits n (entry (now (waits .entry))) (entry (now (targets .entry))) (entry (now (owners .entry))) (entry (now (held .entry)))) ⌝ }
+    ensures { λ b. ⌜ b ≡ allBelow n (linkFits n (numberAt (now (waits .entry))) (numberAt (now (targets .entry))) (numberAt (now (owners .entry))) (numberAt (now (held .entry)))) ⌝ }
 {
     let mut r: u8 = 0;
     while r < n {
@@ -112,7 +112,7 @@ fn links_fit(
 
 // The table is well-formed (document 01's "sound").
 pub fn well_formed(table: Table) -> bool
-    ensures { λ r. ⌜ Verdict table r ⌝ }
+    ensures { λ r. ⌜ r ≡ wellFormed table ⌝ }
 {
     let n = table.n;
     if n < 1 {

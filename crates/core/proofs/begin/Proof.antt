@@ -4,7 +4,7 @@ use lib.ListN.{length}
 use borrow.Author.Needs.{needs}
 use Rattle.model.specs.Threads.{lock, look, at, put}
 use Rattle.laws.proofs.Store.{length-zeroed}
-use Rattle.core.proofs.Performed.{begin-place, begin-words, target-place, target-room, begin-beyond, begin-sends, begin-receives}
+use Rattle.core.proofs.Performed.{accepted-shaped, begin-place, begin-words, target-place, target-room, begin-beyond, begin-sends, begin-receives}
 use Rattle.core.proofs.begin.Statement.{statement}
 use Rattle.core.proofs.begin.Tie as tie
 
@@ -44,7 +44,7 @@ element-copy-out-target c = search target-place
 
 join-requires : tie.Need-join-requires
 unfolding at
-join-requires c κs = target-room _ _ _ (c .before .before .before .before .before .before .before .before .before .before .before .before .pre) (c .before .before .if2 .left)
+join-requires c κs = target-room _ _ _ (c .before .before .before .before .before .before .before .before .before .before .before .before .pre) (accepted-shaped _ _ (c .before .before .before .before .before .before .before .before .before .before .before .before .pre) _ (c .before .before .before .before .before .before .before .before .before .before .before .before .good .0)) (c .before .before .if2 .left)
 
 mul-h-2 : tie.Need-mul-h-2
 mul-h-2 c = search needs

@@ -1,5 +1,6 @@
 use borrow.Author.Needs.{needs}
 use Rattle.model.specs.Threads.{at, put}
+use Rattle.core.proofs.Performed.{accepted-shaped}
 use Rattle.core.proofs.Stepped.{slice-eight, in-array, queue-fits, held-stays, other-in-array, slice-ends, fits-here, stepped}
 use Rattle.core.proofs.step.Statement.{statement}
 use Rattle.core.proofs.step.Tie as tie
@@ -9,15 +10,15 @@ mul-own c = search needs
 
 element-copy-out-own : tie.Need-element-copy-out-own
 unfolding at
-element-copy-out-own c = in-array (c .before .args .x) _ (c .before .pre)
+element-copy-out-own c = in-array (c .before .args .x) _ (c .before .pre) (accepted-shaped _ _ (c .before .pre) _ (c .before .good .0))
 
 returns : tie.Need-returns
 unfolding at
-returns c = held-stays (c .before .before .before .before .args .x) _ (c .before .before .before .before .pre) (c .if1 .taken)
+returns c = held-stays (c .before .before .before .before .args .x) _ (c .before .before .before .before .pre) (accepted-shaped _ _ (c .before .before .before .before .pre) _ (c .before .before .before .before .good .0)) (c .if1 .taken)
 
 other-number-requires : tie.Need-other-number-requires
 unfolding at
-other-number-requires c κs = queue-fits (c .before .before .before .before .args .x) _ (c .before .before .before .before .pre)
+other-number-requires c κs = queue-fits (c .before .before .before .before .args .x) _ (c .before .before .before .before .pre) (accepted-shaped _ _ (c .before .before .before .before .pre) _ (c .before .before .before .before .good .0))
 
 other-or-own-requires : tie.Need-other-or-own-requires
 other-or-own-requires c κs = search needs
@@ -30,7 +31,7 @@ mul-other c = search needs
 
 element-copy-out-other : tie.Need-element-copy-out-other
 unfolding at
-element-copy-out-other c = other-in-array (c .before .before .before .before .before .before .args .x) _ (c .before .before .before .before .before .before .pre) _ _ (c .before .other-number .ensures) (c .other-or-own .ensures)
+element-copy-out-other c = other-in-array (c .before .before .before .before .before .before .args .x) _ (c .before .before .before .before .before .before .pre) (accepted-shaped _ _ (c .before .before .before .before .before .before .pre) _ (c .before .before .before .before .before .before .good .0)) _ _ (c .before .other-number .ensures) (c .other-or-own .ensures)
 
 mul-a : tie.Need-mul-a
 mul-a c = search needs
@@ -49,32 +50,32 @@ part-step-threads-start c = search needs
 
 part-step-threads-end : tie.Need-part-step-threads-end
 unfolding at
-part-step-threads-end c = slice-ends (c .before .before .before .before .before .before .before .args .x) _ (c .before .before .before .before .before .before .before .pre) _ _ (c .before .before .other-number .ensures) (c .before .other-or-own .ensures)
+part-step-threads-end c = slice-ends (c .before .before .before .before .before .before .before .args .x) _ (c .before .before .before .before .before .before .before .pre) (accepted-shaped _ _ (c .before .before .before .before .before .before .before .pre) _ (c .before .before .before .before .before .before .before .good .0)) _ _ (c .before .before .other-number .ensures) (c .before .other-or-own .ensures)
 
 step-threads-requires : tie.Need-step-threads-requires
 unfolding at
-step-threads-requires c κs = (fits-here (c .before .before .before .before .before .before .before .before .args .x) _ (c .before .before .before .before .before .before .before .before .pre) _ _ (c .before .before .before .other-number .ensures) (c .before .before .other-or-own .ensures), slice-eight (c .before .before .before .before .before .before .before .before .args .x) _ (c .before .before .before .before .before .before .before .before .pre) _ _ (c .before .before .before .other-number .ensures) (c .before .before .other-or-own .ensures))
+step-threads-requires c κs = (fits-here (c .before .before .before .before .before .before .before .before .args .x) _ (c .before .before .before .before .before .before .before .before .pre) (accepted-shaped _ _ (c .before .before .before .before .before .before .before .before .pre) _ (c .before .before .before .before .before .before .before .before .good .0)) _ _ (c .before .before .before .other-number .ensures) (c .before .before .other-or-own .ensures), slice-eight (c .before .before .before .before .before .before .before .before .args .x) _ (c .before .before .before .before .before .before .before .before .pre) (accepted-shaped _ _ (c .before .before .before .before .before .before .before .before .pre) _ (c .before .before .before .before .before .before .before .before .good .0)) _ _ (c .before .before .before .other-number .ensures) (c .before .before .other-or-own .ensures))
 
 mul-theirs : tie.Need-mul-theirs
 mul-theirs c = search needs
 
 element-set-from-theirs : tie.Need-element-set-from-theirs
 unfolding at
-element-set-from-theirs c = other-in-array (c .before .before .before .before .before .before .before .before .before .before .before .before .before .args .x) _ (c .before .before .before .before .before .before .before .before .before .before .before .before .before .pre) _ _ (c .before .before .before .before .before .before .before .before .other-number .ensures) (c .before .before .before .before .before .before .before .other-or-own .ensures)
+element-set-from-theirs c = other-in-array (c .before .before .before .before .before .before .before .before .before .before .before .before .before .args .x) _ (c .before .before .before .before .before .before .before .before .before .before .before .before .before .pre) (accepted-shaped _ _ (c .before .before .before .before .before .before .before .before .before .before .before .before .before .pre) _ (c .before .before .before .before .before .before .before .before .before .before .before .before .before .good .0)) _ _ (c .before .before .before .before .before .before .before .before .other-number .ensures) (c .before .before .before .before .before .before .before .other-or-own .ensures)
 
 mul-mine : tie.Need-mul-mine
 mul-mine c = search needs
 
 element-set-from-mine : tie.Need-element-set-from-mine
 unfolding at
-element-set-from-mine c = in-array (c .before .before .before .before .before .before .before .before .before .before .before .before .before .args .x) _ (c .before .before .before .before .before .before .before .before .before .before .before .before .before .pre)
+element-set-from-mine c = in-array (c .before .before .before .before .before .before .before .before .before .before .before .before .before .args .x) _ (c .before .before .before .before .before .before .before .before .before .before .before .before .before .pre) (accepted-shaped _ _ (c .before .before .before .before .before .before .before .before .before .before .before .before .before .pre) _ (c .before .before .before .before .before .before .before .before .before .before .before .before .before .good .0))
 
 same-length : tie.Need-same-length
 same-length c = search needs
 
 returns-2 : tie.Need-returns-2
 unfolding at put
-returns-2 c = stepped (c .before .before .before .before .before .before .before .before .before .before .before .before .before .args .x) _ (c .before .before .before .before .before .before .before .before .before .before .before .before .before .pre) _ _ (c .before .before .before .before .before .before .before .before .other-number .ensures) (c .before .before .before .before .before .before .before .other-or-own .ensures) (c .before .before .before .before .before .before .before .before .before .if1 .left) (c .before .before .before .before .step-threads .result) _ (c .before .before .before .before .step-threads .ensures .0) (c .before .before .before .before .step-threads .ensures .1)
+returns-2 c = stepped (c .before .before .before .before .before .before .before .before .before .before .before .before .before .args .x) _ (c .before .before .before .before .before .before .before .before .before .before .before .before .before .pre) (accepted-shaped _ _ (c .before .before .before .before .before .before .before .before .before .before .before .before .before .pre) _ (c .before .before .before .before .before .before .before .before .before .before .before .before .before .good .0)) _ _ (c .before .before .before .before .before .before .before .before .other-number .ensures) (c .before .before .before .before .before .before .before .other-or-own .ensures) (c .before .before .before .before .before .before .before .before .before .if1 .left) (c .before .before .before .before .step-threads .result) _ (c .before .before .before .before .step-threads .ensures .0) (c .before .before .before .before .step-threads .ensures .1)
 
 pub step-spec : {M : Type 1} → statement M
 step-spec =

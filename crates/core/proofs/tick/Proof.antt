@@ -2,9 +2,9 @@ use mathlib.Core.Path.{_≡_}
 use Prim.Native.Nat.{_-_, _≤_}
 use native.Mathlib.Omega.{arith}
 use borrow.Author.Needs.{needs}
-use Rattle.model.specs.Threads.{at, put, editBelow}
 use Rattle.model.specs.Calls.{ticked}
-use Rattle.core.proofs.Performed.{allowed-few, tick-performed, none-ticked, one-more-ticked, all-ticked}
+use Rattle.model.specs.Threads.{at, put, editBelow}
+use Rattle.core.proofs.Performed.{accepted-few, tick-performed, none-ticked, one-more-ticked, all-ticked}
 use Rattle.core.proofs.tick.Statement.{statement}
 use Rattle.core.proofs.tick.Tie as tie
 
@@ -20,7 +20,7 @@ cast-n : tie.Need-cast-n Inv-loop μ-loop
 cast-n c = search needs
 
 loop-holds : tie.Need-loop-holds Inv-loop μ-loop
-loop-holds c = (search needs, allowed-few _ _ (c .before .pre), none-ticked _)
+loop-holds c = (search needs, accepted-few _ _ (c .before .pre), none-ticked _)
 
 mul-h : tie.Need-mul-h Inv-loop μ-loop
 mul-h c = search needs

@@ -5,8 +5,8 @@ use borrow.Author.Needs.{needs}
 use Rattle.model.specs.Calls.{begin}
 use Rattle.model.specs.Promise.{state}
 use Rattle.model.specs.Threads.{at}
-use Rattle.core.proofs.Kept.{begin-allowed}
-use Rattle.engine.proofs.Refused.{refused-as, table-refuses, later-refuses, table-checked, table-few, place-below, place-store, place-before-begin, begin-after-place}
+use Rattle.core.proofs.Kept.{begin-accepted}
+use Rattle.engine.proofs.Refused.{refused-as, table-refuses, later-refuses, table-formed, table-few, place-below, place-store, place-before-begin, begin-after-place}
 use Rattle.refusals.specs.Rows.{threadRows, operationRows, beginRows}
 use Rattle.engine.proofs.begin.Statement.{statement}
 use Rattle.engine.proofs.begin.Tie as tie
@@ -47,7 +47,7 @@ returns-3 c = refused-as _ (c .refuse3 .ensures) (later-refuses (begin (c .befor
 
 begin-requires : tie.Need-begin-requires
 unfolding at threadRows operationRows beginRows
-begin-requires c κs = begin-allowed (c .before .before .before .before .before .before .before .before .before .args .thread) (c .before .before .before .before .before .before .before .before .before .args .op) _ (table-checked _ _ (c .before .before .before .before .before .before .before .table-refusal .ensures) (c .before .before .before .before .before .before .if1 .left)) (place-below (c .before .before .before .before .before .before .before .before .before .args .t1) _ _ _ (c .before .before .before .before .before .place-refusal .ensures (c .before .before .before .before .before .before .before .before .before .args .t1) refl) (c .before .before .before .before .if2 .left)) (place-store (c .before .before .before .before .before .before .before .before .before .args .t1) _ _ _ (c .before .before .before .before .before .place-refusal .ensures (c .before .before .before .before .before .before .before .before .before .args .t1) refl) (c .before .before .before .before .if2 .left)) (sym (c .before .before .begin-refusal .ensures (c .before .before .before .before .before .before .before .before .before .args .t1) refl refl) ∙ c .before .if3 .left)
+begin-requires c κs = begin-accepted (c .before .before .before .before .before .before .before .before .before .args .thread) (c .before .before .before .before .before .before .before .before .before .args .op) _ (table-formed _ _ (c .before .before .before .before .before .before .before .table-refusal .ensures) (c .before .before .before .before .before .before .if1 .left)) (place-below (c .before .before .before .before .before .before .before .before .before .args .t1) _ _ _ (c .before .before .before .before .before .place-refusal .ensures (c .before .before .before .before .before .before .before .before .before .args .t1) refl) (c .before .before .before .before .if2 .left)) (place-store (c .before .before .before .before .before .before .before .before .before .args .t1) _ _ _ (c .before .before .before .before .before .place-refusal .ensures (c .before .before .before .before .before .before .before .before .before .args .t1) refl) (c .before .before .before .before .if2 .left)) (sym (c .before .before .begin-refusal .ensures (c .before .before .before .before .before .before .before .before .before .args .t1) refl refl) ∙ c .before .if3 .left)
 
 same-length : tie.Need-same-length
 same-length c = search needs

@@ -5,8 +5,8 @@ use borrow.Author.Tests.{eq-eqb}
 use Rattle.model.specs.Calls.{cancel}
 use Rattle.model.specs.Promise.{state}
 use Rattle.model.specs.Threads.{at, lockFree}
-use Rattle.core.proofs.Kept.{cancel-allowed}
-use Rattle.engine.proofs.Refused.{refused-as, table-refuses, later-refuses, table-checked, table-few, cancel-no-thread, cancel-lock-owned}
+use Rattle.core.proofs.Kept.{cancel-accepted}
+use Rattle.engine.proofs.Refused.{refused-as, table-refuses, later-refuses, table-formed, table-few, cancel-no-thread, cancel-lock-owned}
 use Rattle.engine.proofs.cancel.Statement.{statement}
 use Rattle.engine.proofs.cancel.Tie as tie
 
@@ -40,7 +40,7 @@ returns-3 c = λ store. refused-as _ (c .refuse3 .ensures) (later-refuses (cance
 
 cancel-requires : tie.Need-cancel-requires
 unfolding at lockFree
-cancel-requires c κs = cancel-allowed (c .before .before .before .before .before .before .args .thread) (state (c .before .before .before .before .before .before .args .t1) []) (table-checked _ _ (c .before .before .before .before .before .table-refusal .ensures) (c .before .before .before .before .if1 .left)) (c .before .before .before .if2 .left) (eq-eqb _ _ (c .if3 .left))
+cancel-requires c κs = cancel-accepted (c .before .before .before .before .before .before .args .thread) (state (c .before .before .before .before .before .before .args .t1) []) (table-formed _ _ (c .before .before .before .before .before .table-refusal .ensures) (c .before .before .before .before .if1 .left)) (c .before .before .before .if2 .left) (eq-eqb _ _ (c .if3 .left))
 
 returns-4 : tie.Need-returns-4
 returns-4 c = search needs

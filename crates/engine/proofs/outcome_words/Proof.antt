@@ -3,7 +3,7 @@ use native.Mathlib.Omega.{arith}
 use borrow.Author.Needs.{needs}
 use Rattle.model.specs.Calls.{step}
 use Rattle.model.specs.Threads.{at}
-use Rattle.engine.proofs.Refused.{table-number, later-number, table-checked, table-few, place-below, place-store}
+use Rattle.engine.proofs.Refused.{table-number, later-number, table-formed, table-few, place-below, place-store}
 use Rattle.engine.proofs.Shown.{words-refused, words-shown, count-fits}
 use Rattle.engine.proofs.outcome_words.Statement.{statement}
 use Rattle.engine.proofs.outcome_words.Tie as tie
@@ -46,7 +46,7 @@ element-copy-out-own c = omega (arith, table-few _ _ (c .before .before .before 
 
 first-words-requires : tie.Need-first-words-requires
 unfolding at
-first-words-requires c κs = (omega (arith, place-below (c .before .before .before .before .before .before .before .args .t1) _ _ _ (c .before .before .before .place-refusal .ensures (c .before .before .before .before .before .before .before .args .t1) refl) (c .before .before .if2 .left), place-store (c .before .before .before .before .before .before .before .args .t1) _ _ _ (c .before .before .before .place-refusal .ensures (c .before .before .before .before .before .before .before .args .t1) refl) (c .before .before .if2 .left)), count-fits (c .before .before .before .before .before .before .before .args .t1) (table-checked _ _ (c .before .before .before .before .before .table-refusal .ensures) (c .before .before .before .before .if1 .left)) _ (place-below (c .before .before .before .before .before .before .before .args .t1) _ _ _ (c .before .before .before .place-refusal .ensures (c .before .before .before .before .before .before .before .args .t1) refl) (c .before .before .if2 .left)))
+first-words-requires c κs = (omega (arith, place-below (c .before .before .before .before .before .before .before .args .t1) _ _ _ (c .before .before .before .place-refusal .ensures (c .before .before .before .before .before .before .before .args .t1) refl) (c .before .before .if2 .left), place-store (c .before .before .before .before .before .before .before .args .t1) _ _ _ (c .before .before .before .place-refusal .ensures (c .before .before .before .before .before .before .before .args .t1) refl) (c .before .before .if2 .left)), count-fits (c .before .before .before .before .before .before .before .args .t1) (table-formed _ _ (c .before .before .before .before .before .table-refusal .ensures) (c .before .before .before .before .if1 .left)) _ (place-below (c .before .before .before .before .before .before .before .args .t1) _ _ _ (c .before .before .before .place-refusal .ensures (c .before .before .before .before .before .before .before .args .t1) refl) (c .before .before .if2 .left)))
 
 returns-3 : tie.Need-returns-3
 unfolding at

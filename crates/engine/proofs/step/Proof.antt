@@ -1,8 +1,8 @@
 use mathlib.Core.Path.{refl}
 use borrow.Author.Needs.{needs}
 use Rattle.model.specs.Calls.{step}
-use Rattle.core.proofs.Kept.{step-allowed}
-use Rattle.engine.proofs.Refused.{refused-as, table-refuses, later-refuses, table-checked, place-below, place-store}
+use Rattle.core.proofs.Kept.{step-accepted}
+use Rattle.engine.proofs.Refused.{refused-as, table-refuses, later-refuses, table-formed, place-below, place-store}
 use Rattle.engine.proofs.step.Statement.{statement}
 use Rattle.engine.proofs.step.Tie as tie
 
@@ -25,7 +25,7 @@ returns-2 : tie.Need-returns-2
 returns-2 c = refused-as _ (c .refuse2 .ensures) (later-refuses (step (c .before .before .before .before .before .before .args .thread)) _ _ (c .before .before .before .before .table-refusal .ensures) (c .before .before .before .if1 .left) _ (c .before .before .place-refusal .ensures (c .before .before .before .before .before .before .args .table) refl) (c .before .if2 .taken))
 
 step-requires : tie.Need-step-requires
-step-requires c κs = step-allowed (c .before .before .before .before .before .before .args .thread) _ (table-checked _ _ (c .before .before .before .before .table-refusal .ensures) (c .before .before .before .if1 .left)) (place-below (c .before .before .before .before .before .before .args .table) _ _ _ (c .before .before .place-refusal .ensures (c .before .before .before .before .before .before .args .table) refl) (c .before .if2 .left)) (place-store (c .before .before .before .before .before .before .args .table) _ _ _ (c .before .before .place-refusal .ensures (c .before .before .before .before .before .before .args .table) refl) (c .before .if2 .left))
+step-requires c κs = step-accepted (c .before .before .before .before .before .before .args .thread) _ (table-formed _ _ (c .before .before .before .before .table-refusal .ensures) (c .before .before .before .if1 .left)) (place-below (c .before .before .before .before .before .before .args .table) _ _ _ (c .before .before .place-refusal .ensures (c .before .before .before .before .before .before .args .table) refl) (c .before .if2 .left)) (place-store (c .before .before .before .before .before .before .args .table) _ _ _ (c .before .before .place-refusal .ensures (c .before .before .before .before .before .before .args .table) refl) (c .before .if2 .left))
 
 same-length : tie.Need-same-length
 same-length c = search needs

@@ -1,3 +1,4 @@
+use mathlib.Core.Path.{sym, _∙_}
 use borrow.Author.Needs.{needs}
 use Rattle.engine.proofs.Refused.{size-refuses, check-refuses, check-passes}
 use Rattle.engine.proofs.table_refusal.Statement.{statement}
@@ -13,10 +14,10 @@ well-formed-requires : tie.Need-well-formed-requires
 well-formed-requires c κs = search needs
 
 returns-2 : tie.Need-returns-2
-returns-2 c = check-passes (c .before .before .before .before .args .table) _ (c .before .before .before .size-refusal .ensures) (c .before .before .if1 .left) _ (c .before .well-formed .ensures) (c .if2 .taken)
+returns-2 c = check-passes (c .before .before .before .before .args .table) _ (c .before .before .before .size-refusal .ensures) (c .before .before .if1 .left) (sym (c .before .well-formed .ensures) ∙ c .if2 .taken)
 
 returns-3 : tie.Need-returns-3
-returns-3 c = check-refuses (c .before .before .before .before .args .table) _ (c .before .before .before .size-refusal .ensures) (c .before .before .if1 .left) _ (c .before .well-formed .ensures) (c .if2 .left)
+returns-3 c = check-refuses (c .before .before .before .before .args .table) _ (c .before .before .before .size-refusal .ensures) (c .before .before .if1 .left) (sym (c .before .well-formed .ensures) ∙ c .if2 .left)
 
 pub table-refusal-spec : {M : Type 1} → statement M
 table-refusal-spec =

@@ -1,7 +1,7 @@
 use mathlib.Core.Bool.{or-false, or-assoc}
 use Rattle.model.specs.Lists.{implies}
 use Rattle.formed.proofs.Flags.{isOneOf, flagsFit}
-use Rattle.threadtests.proofs.Tests.{all-joined}
+use Rattle.laws.proofs.Tests.{all-joined}
 use Rattle.threadtests.proofs.flags_fit.Statement.{statement}
 use Rattle.threadtests.proofs.flags_fit.Tie as tie
 

@@ -5,7 +5,7 @@ use mir.Val.{SFits}
 use mir.Facts.{toZ-ofZ}
 use Rattle.model.specs.WellFormed.{nobodyOrBelow}
 use Rattle.formed.proofs.Own.{outcomeFits}
-use Rattle.threadtests.proofs.Tests.{all-joined}
+use Rattle.laws.proofs.Tests.{all-joined}
 use Rattle.threadtests.proofs.Codes.{same-bits}
 use Rattle.threadtests.proofs.outcome_fits.Statement.{statement}
 use Rattle.threadtests.proofs.outcome_fits.Tie as tie

@@ -2,7 +2,7 @@ use mathlib.Core.Bool.{or-false}
 use Rattle.model.specs.Lists.{implies}
 use Rattle.formed.proofs.Flags.{isOneOf}
 use Rattle.formed.proofs.Own.{phaseFits}
-use Rattle.threadtests.proofs.Tests.{all-joined}
+use Rattle.laws.proofs.Tests.{all-joined}
 use Rattle.threadtests.proofs.phase_fits.Statement.{statement}
 use Rattle.threadtests.proofs.phase_fits.Tie as tie
 

@@ -1,6 +1,6 @@
 use Rattle.model.specs.WellFormed.{nobodyOrBelow}
 use Rattle.formed.proofs.Own.{queueFits}
-use Rattle.threadtests.proofs.Tests.{all-joined}
+use Rattle.laws.proofs.Tests.{all-joined}
 use Rattle.threadtests.proofs.queue_fits.Statement.{statement}
 use Rattle.threadtests.proofs.queue_fits.Tie as tie
 

@@ -1,7 +1,7 @@
 use borrow.Author.Needs.{needs}
 use Rattle.model.specs.Shared.{isTimeCode}
 use Rattle.model.specs.WellFormed.{receiveInRange}
-use Rattle.threadtests.proofs.Tests.{all-joined}
+use Rattle.laws.proofs.Tests.{all-joined}
 use Rattle.threadtests.proofs.receive_in_range.Statement.{statement}
 use Rattle.threadtests.proofs.receive_in_range.Tie as tie
 

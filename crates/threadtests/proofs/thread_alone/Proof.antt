@@ -1,6 +1,6 @@
 use borrow.Author.Needs.{needs}
 use Rattle.threadtests.specs.Alone.{ownFits}
-use Rattle.threadtests.proofs.Tests.{all-joined}
+use Rattle.laws.proofs.Tests.{all-joined}
 use Rattle.threadtests.proofs.thread_alone.Statement.{statement}
 use Rattle.threadtests.proofs.thread_alone.Tie as tie
 

@@ -1,13 +1,13 @@
 use Prim.Native.Nat.{_≤_, _-_}
 use borrow.Author.Needs.{needs}
-use Rattle.wellformed.specs.Links.{entry}
+use Rattle.wellformed.specs.Links.{numberAt}
 use Rattle.wellformed.proofs.Chains.{Followed, followed-none, followed-more, followed-out, followed-back, followed-all}
 use Rattle.wellformed.proofs.chain_ends.Statement.{statement}
 use Rattle.wellformed.proofs.chain_ends.Tie as tie
 
 -- k owners were followed
 abbrev Inv-loop : tie.InvT-loop
-Inv-loop n owners r i owner₀ k₀ owner k = (k ≤ n) × Followed n (entry owners) r k owner
+Inv-loop n owners r i owner₀ k₀ owner k = (k ≤ n) × Followed n (numberAt owners) r k owner
 
 -- the owners that are left
 abbrev μ-loop : tie.MeasureT-loop

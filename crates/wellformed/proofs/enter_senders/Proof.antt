@@ -4,21 +4,21 @@ use native.Mathlib.Numerals.{add-one}
 use lib.ListN.{length, take}
 use lib.Seq.{take-suc}
 use borrow.Author.Needs.{needs}
-use Rattle.wellformed.specs.Waiting.{Entering}
-use Rattle.wellformed.proofs.Entering.{entering-none, entering-more, all-entered, beyond-table, waits-already}
+use Rattle.wellformed.specs.Waiting.{Entered}
+use Rattle.wellformed.proofs.Entering.{entered-none, entered-more, all-entered, beyond-table, waits-already}
 use Rattle.wellformed.proofs.enter_senders.Statement.{statement}
 use Rattle.wellformed.proofs.enter_senders.Tie as tie
 
 -- the first i senders are entered
 abbrev Inv-loop : tie.InvT-loop
-Inv-loop n r waits₀ items len i₀ waits i = (i ≤ len) × (length items ≡ 32) × Entering n r (take i items) waits₀ waits
+Inv-loop n r waits₀ items len i₀ waits i = (i ≤ len) × (length items ≡ 32) × Entered n r (take i items) waits₀ waits
 
 -- the senders that are left
 abbrev μ-loop : tie.MeasureT-loop
 μ-loop n r waits₀ items len i₀ waits i = len - i
 
 loop-holds : tie.Need-loop-holds Inv-loop μ-loop
-loop-holds c = (search needs, search needs, entering-none _ _ _ (search needs))
+loop-holds c = (search needs, search needs, entered-none _ _ _ (search needs))
 
 cast-k : tie.Need-cast-k Inv-loop μ-loop
 cast-k c = search needs
@@ -53,7 +53,7 @@ loop-again c =
     let loop = c .before .before .before .before .loop in
     let items = c .before .before .before .before .before .before .before .args .h .queue .items in
     let l : loop .i < length items = search needs in
-    (search needs, search needs, rw (add-one, take-suc items (loop .i) 0 l) (entering-more _ _ _ _ _ _ (search needs) (search needs) (search needs) (loop .inv .2) (c .if2 .left)))
+    (search needs, search needs, rw (add-one, take-suc items (loop .i) 0 l) (entered-more _ _ _ _ _ _ (search needs) (search needs) (search needs) (loop .inv .2) (c .if2 .left)))
 
 returns-3 : tie.Need-returns-3 Inv-loop μ-loop
 returns-3 c = all-entered _ (c .before .loop .i) (search needs) (c .before .loop .inv .2)

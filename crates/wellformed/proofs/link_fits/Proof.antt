@@ -1,5 +1,5 @@
 use borrow.Author.Needs.{needs}
-use Rattle.threadtests.proofs.Tests.{all-joined}
+use Rattle.laws.proofs.Tests.{all-joined}
 use Rattle.wellformed.specs.Links.{linkFits}
 use Rattle.wellformed.proofs.link_fits.Statement.{statement}
 use Rattle.wellformed.proofs.link_fits.Tie as tie

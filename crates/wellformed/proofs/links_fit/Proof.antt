@@ -6,13 +6,13 @@ use borrow.Author.Needs.{needs}
 use borrow.Author.Tests.{not-true, not-false}
 use Rattle.model.specs.Lists.{allBelow}
 use Rattle.wellformed.proofs.Below.{all-below-fails, all-below-more, all-below-end}
-use Rattle.wellformed.specs.Links.{entry, linkFits}
+use Rattle.wellformed.specs.Links.{numberAt, linkFits}
 use Rattle.wellformed.proofs.links_fit.Statement.{statement}
 use Rattle.wellformed.proofs.links_fit.Tie as tie
 
 -- what was gathered of the first r threads fits
 abbrev Inv-loop : tie.InvT-loop
-Inv-loop n waits targets owners held r₀ r = (r ≤ n) × (allBelow r (linkFits n (entry waits) (entry targets) (entry owners) (entry held)) ≡ true)
+Inv-loop n waits targets owners held r₀ r = (r ≤ n) × (allBelow r (linkFits n (numberAt waits) (numberAt targets) (numberAt owners) (numberAt held)) ≡ true)
 
 -- the threads that are left
 abbrev μ-loop : tie.MeasureT-loop

@@ -10,7 +10,7 @@ use Rattle.model.specs.WellFormed.{Shaped}
 use Rattle.formed.proofs.Own.{Own}
 use Rattle.formed.proofs.Facts.{queue-small}
 use Rattle.threadtests.proofs.Alone.{own-told}
-use Rattle.wellformed.proofs.Shape.{shaped}
+use Rattle.formed.proofs.Shape.{shaped}
 use Rattle.wellformed.proofs.Passed.{Passed, passed-none, passed-more}
 use Rattle.wellformed.proofs.Verdict.{size-refused, alone-refused, copy-refused, queue-refused, links-verdict}
 use Rattle.wellformed.proofs.well_formed.Statement.{statement}
@@ -90,7 +90,7 @@ enter-senders-requires c κs = (search needs, search needs, queue-small (own (c 
 returns-5 : tie.Need-returns-5 Inv-loop μ-loop
 unfolding at
 returns-5 c = let loop = c .before .before .before .before .before .before .before .before .before .loop in
-    queue-refused _ (loop .inv .1) (search needs) (search needs) (loop .inv .2) (search needs) (c .before .enter-senders .ensures .no (not-true (c .before .enter-senders .result) (c .if6 .taken)))
+    queue-refused _ (loop .inv .1) (search needs) (loop .inv .2) (search needs) (c .before .enter-senders .ensures .no (not-true (c .before .enter-senders .result) (c .if6 .taken)))
 
 target-of-requires : tie.Need-target-of-requires Inv-loop μ-loop
 target-of-requires c κs = search needs

@@ -1,4 +1,5 @@
--- That the arrays of a table have their places is a fact of the types.
+-- That the arrays of a table have their places is a fact of the types: a function that is given a table has it from the table's type.
+-- A projection below goes by the place of a field in its struct.
 use mathlib.Core.Path.{_≡_}
 use mathlib.Core.List.{List, [], _∷_, map}
 use Prim.Native.Nat.{ℕ, zero, suc, _≤_, _<_}
