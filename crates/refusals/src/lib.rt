@@ -4,7 +4,7 @@ ghost use Prim.Native.Nat.{ℕ};
 ghost use Rattle.model.specs.declared.Table.{Table};
 ghost use Rattle.model.specs.Threads.{at};
 ghost use Rattle.model.specs.Refusals.{firstRefusal, closedBeyond, makeRefusal};
-ghost use Rattle.refusals.specs.Rows.{placeRows, threadRows, operationRows, beginRows};
+ghost use Rattle.refusals.specs.Rows.{tableRows, placeRows, threadRows, operationRows, beginRows};
 use model::Operation;
 use model::Receive;
 use model::SendPart;
@@ -22,6 +22,20 @@ pub fn size_refusal(n: u8) -> u8
         return 1;
     }
     0
+}
+
+// The rows on the table: its size, and whether it is well-formed.
+pub fn table_refusal(table: Table) -> u8
+    ensures { λ r. ⌜ r ≡ firstRefusal (tableRows table) ⌝ }
+{
+    let size = size_refusal(table.n);
+    if size != 0 {
+        return size;
+    }
+    if wellformed::well_formed(table) {
+        return 0;
+    }
+    2
 }
 
 // Closed partner is N or more.

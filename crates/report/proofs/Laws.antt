@@ -14,8 +14,8 @@ use Rattle.model.specs.Refusals.{unless, reportRefusal}
 use Rattle.model.specs.Promise.{reportAnswer, reportAfter, ReportPromise}
 use Rattle.model.proofs.Laws.{length-up-to}
 use Rattle.laws.proofs.Lists.{zero-or-not}
-use Rattle.engine.specs.declared.Report.{Report}
-use Rattle.engine.specs.Report.{Reported}
+use Rattle.outcomes.specs.declared.Report.{Report}
+use Rattle.outcomes.specs.Report.{Reported}
 
 -- the outcome of thread x
 abbrev pub outcomeOf : Table → ℕ → Outcome

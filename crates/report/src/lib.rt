@@ -8,10 +8,10 @@ use model::Table;
 pub fn report_into(table: Table, records: &mut [Outcome]) -> Answer
     ensures { λ r. ⌜ ReportPromise table (now (records .entry)) r (now (records .exit)) ⌝ }
 {
-    let report = engine::reported(table, records.len());
+    let report = outcomes::reported(table, records.len());
     let mut i: usize = 0;
     while i < report.len {
-        records[i] = engine::outcome_in(report, i);
+        records[i] = outcomes::outcome_in(report, i);
         i += 1;
     }
     report.answer

@@ -6,7 +6,8 @@ use Rattle.model.specs.Calls.{begin}
 use Rattle.model.specs.Promise.{state}
 use Rattle.model.specs.Threads.{at}
 use Rattle.core.proofs.Kept.{begin-accepted}
-use Rattle.engine.proofs.Refused.{refused-as, table-refuses, later-refuses, table-formed, table-few, place-below, place-store, place-before-begin, begin-after-place}
+use Rattle.engine.proofs.Refused.{refused-as, table-refuses, later-refuses}
+use Rattle.refusals.proofs.Groups.{table-formed, table-few, place-below, place-store, place-before-begin, begin-after-place}
 use Rattle.refusals.specs.Rows.{threadRows, operationRows, beginRows}
 use Rattle.engine.proofs.begin.Statement.{statement}
 use Rattle.engine.proofs.begin.Tie as tie

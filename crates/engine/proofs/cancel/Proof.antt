@@ -6,7 +6,8 @@ use Rattle.model.specs.Calls.{cancel}
 use Rattle.model.specs.Promise.{state}
 use Rattle.model.specs.Threads.{at, lockFree}
 use Rattle.core.proofs.Kept.{cancel-accepted}
-use Rattle.engine.proofs.Refused.{refused-as, table-refuses, later-refuses, table-formed, table-few, cancel-no-thread, cancel-lock-owned}
+use Rattle.engine.proofs.Refused.{refused-as, table-refuses, later-refuses}
+use Rattle.refusals.proofs.Groups.{table-formed, table-few, cancel-no-thread, cancel-lock-owned}
 use Rattle.engine.proofs.cancel.Statement.{statement}
 use Rattle.engine.proofs.cancel.Tie as tie
 

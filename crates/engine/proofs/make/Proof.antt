@@ -4,7 +4,7 @@ use Rattle.model.specs.Promise.{MakePromise}
 use Rattle.model.specs.declared.Answer.the-variants.{Refused, Accepted}
 use Rattle.model.specs.declared.Returned.{Returned}
 use Rattle.model.specs.declared.Table.{Table}
-use Rattle.engine.proofs.Shown.{make-refused, make-accepted}
+use Rattle.engine.proofs.Refused.{make-refused, make-accepted}
 use Rattle.engine.proofs.make.Statement.{statement}
 use Rattle.engine.proofs.make.Tie as tie
 

@@ -2,7 +2,8 @@ use mathlib.Core.Path.{refl}
 use borrow.Author.Needs.{needs}
 use Rattle.model.specs.Calls.{step}
 use Rattle.core.proofs.Kept.{step-accepted}
-use Rattle.engine.proofs.Refused.{refused-as, table-refuses, later-refuses, table-formed, place-below, place-store}
+use Rattle.engine.proofs.Refused.{refused-as, table-refuses, later-refuses}
+use Rattle.refusals.proofs.Groups.{table-formed, place-below, place-store}
 use Rattle.engine.proofs.step.Statement.{statement}
 use Rattle.engine.proofs.step.Tie as tie
 

@@ -3,7 +3,8 @@ use borrow.Author.Needs.{needs}
 use Rattle.model.specs.Calls.{tick}
 use Rattle.model.specs.Promise.{state}
 use Rattle.core.proofs.Kept.{tick-accepted}
-use Rattle.engine.proofs.Refused.{refused-as, table-refuses, table-formed}
+use Rattle.engine.proofs.Refused.{refused-as, table-refuses}
+use Rattle.refusals.proofs.Groups.{table-formed}
 use Rattle.engine.proofs.tick.Statement.{statement}
 use Rattle.engine.proofs.tick.Tie as tie
 

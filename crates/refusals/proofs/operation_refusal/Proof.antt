@@ -1,60 +1,44 @@
-use Rattle.model.specs.Refusals.{neitherPart, withItself, noPartner, tooManyWords, badTime}
-use Rattle.refusals.proofs.Laws.{neither-when, itself-when, partner-when, words-when, time-when}
-use Rattle.refusals.specs.Rows.{operationRows}
-use Rattle.laws.proofs.Rows.{first-none, first-here, first-later}
 use mathlib.Core.Path.{sym, _∙_}
 use borrow.Author.Needs.{needs}
+use Rattle.model.specs.Refusals.{neitherPart, withItself, noPartner, tooManyWords, badTime}
+use Rattle.laws.proofs.Rows.{first-none, first-here, first-later}
+use Rattle.refusals.proofs.Laws.{neither-when, itself-when, partner-when, words-when, time-when}
+use Rattle.refusals.specs.Rows.{operationRows}
 use Rattle.refusals.proofs.operation_refusal.Statement.{statement}
 use Rattle.refusals.proofs.operation_refusal.Tie as tie
-use Rattle.refusals.proofs.operation_refusal.Reads as reads
-use Rattle.refusals.proofs.operation_refusal.Lts as lts
-use Rattle.refusals.proofs.closed_beyond.Reads as closed-beyond-reads
-use Rattle.threads.proofs.closed_on.Reads as closed-on-reads
-use Rattle.threads.proofs.has_receive.Reads as has-receive-reads
-use Rattle.threads.proofs.receive_time.Reads as receive-time-reads
 
--- src/lib.rt:44:9
 has-receive-requires : tie.Need-has-receive-requires
 has-receive-requires c κs = search needs
 
--- src/lib.rt:46:9
 returns : tie.Need-returns
 unfolding operationRows neitherPart withItself noPartner tooManyWords badTime
 returns c = λ t e. sym (first-here _ _ (neither-when (c .before .before .before .before .args .op) _ _ (c .before .before .has-receive .ensures) (c .if1 .taken)))
 
--- src/lib.rt:48:46
 closed-on-requires : tie.Need-closed-on-requires
 closed-on-requires c κs = search needs
 
--- src/lib.rt:49:9
 returns-2 : tie.Need-returns-2
 unfolding operationRows neitherPart withItself noPartner tooManyWords badTime
 returns-2 c = λ t e. sym (first-later _ _ (neither-when (c .before .before .before .before .before .before .before .before .args .op) _ _ (c .before .before .before .before .before .before .has-receive .ensures) (c .before .before .before .before .if1 .left)) ∙ first-here _ _ (itself-when (c .before .before .before .before .before .before .before .before .args .op) _ (c .before .before .before .before .before .before .before .before .args .x) _ (c .before .closed-on .ensures) (c .if2 .taken)))
 
--- src/lib.rt:51:8
 closed-beyond-requires : tie.Need-closed-beyond-requires
 closed-beyond-requires c κs = search needs
 
--- src/lib.rt:52:9
 returns-3 : tie.Need-returns-3
 unfolding operationRows neitherPart withItself noPartner tooManyWords badTime
 returns-3 c = λ t e. sym (first-later _ _ (neither-when (c .before .before .before .before .before .before .before .before .before .before .args .op) _ _ (c .before .before .before .before .before .before .before .before .has-receive .ensures) (c .before .before .before .before .before .before .if1 .left)) ∙ first-later _ _ (itself-when (c .before .before .before .before .before .before .before .before .before .before .args .op) _ (c .before .before .before .before .before .before .before .before .before .before .args .x) _ (c .before .before .before .closed-on .ensures) (c .before .before .if2 .left)) ∙ first-here _ _ (partner-when (c .before .before .before .before .before .before .before .before .before .before .args .op) _ t (c .before .before .before .before .before .before .before .before .before .before .args .n) e _ (c .before .closed-beyond .ensures) (c .if3 .taken)))
 
--- src/lib.rt:55:9
 returns-4 : tie.Need-returns-4
 unfolding operationRows neitherPart withItself noPartner tooManyWords badTime
 returns-4 c = λ t e. sym (first-later _ _ (neither-when (c .before .before .before .before .before .before .before .before .before .before .before .before .before .args .op) _ _ (c .before .before .before .before .before .before .before .before .before .before .before .has-receive .ensures) (c .before .before .before .before .before .before .before .before .before .if1 .left)) ∙ first-later _ _ (itself-when (c .before .before .before .before .before .before .before .before .before .before .before .before .before .args .op) _ (c .before .before .before .before .before .before .before .before .before .before .before .before .before .args .x) _ (c .before .before .before .before .before .before .closed-on .ensures) (c .before .before .before .before .before .if2 .left)) ∙ first-later _ _ (partner-when (c .before .before .before .before .before .before .before .before .before .before .before .before .before .args .op) _ t (c .before .before .before .before .before .before .before .before .before .before .before .before .before .args .n) e _ (c .before .before .before .before .closed-beyond .ensures) (c .before .before .before .if3 .left)) ∙ first-here _ _ (words-when (c .before .before .before .before .before .before .before .before .before .before .before .before .before .args .op) _ (c .if4 .taken)))
 
--- src/lib.rt:57:104
 receive-time-requires : tie.Need-receive-time-requires
 receive-time-requires c κs = search needs
 
--- src/lib.rt:58:9
 returns-5 : tie.Need-returns-5
 unfolding operationRows neitherPart withItself noPartner tooManyWords badTime
 returns-5 c = λ t e. sym (first-later _ _ (neither-when (c .before .before .before .before .before .before .before .before .before .before .before .before .before .before .before .before .before .args .op) _ _ (c .before .before .before .before .before .before .before .before .before .before .before .before .before .before .before .has-receive .ensures) (c .before .before .before .before .before .before .before .before .before .before .before .before .before .if1 .left)) ∙ first-later _ _ (itself-when (c .before .before .before .before .before .before .before .before .before .before .before .before .before .before .before .before .before .args .op) _ (c .before .before .before .before .before .before .before .before .before .before .before .before .before .before .before .before .before .args .x) _ (c .before .before .before .before .before .before .before .before .before .before .closed-on .ensures) (c .before .before .before .before .before .before .before .before .before .if2 .left)) ∙ first-later _ _ (partner-when (c .before .before .before .before .before .before .before .before .before .before .before .before .before .before .before .before .before .args .op) _ t (c .before .before .before .before .before .before .before .before .before .before .before .before .before .before .before .before .before .args .n) e _ (c .before .before .before .before .before .before .before .before .closed-beyond .ensures) (c .before .before .before .before .before .before .before .if3 .left)) ∙ first-later _ _ (words-when (c .before .before .before .before .before .before .before .before .before .before .before .before .before .before .before .before .before .args .op) _ (c .before .before .before .before .if4 .left)) ∙ first-here _ _ (time-when (c .before .before .before .before .before .before .before .before .before .before .before .before .before .before .before .before .before .args .op) _ _ _ (c .before .before .before .before .before .before .before .before .before .before .before .before .before .before .before .has-receive .ensures) (c .before .receive-time .ensures) (c .if5 .taken)))
 
--- src/lib.rt:39:1
 returns-6 : tie.Need-returns-6
 unfolding operationRows neitherPart withItself noPartner tooManyWords badTime
 returns-6 c = λ t e. sym (first-later _ _ (neither-when (c .before .before .before .before .before .before .before .before .before .before .before .before .before .before .before .before .before .args .op) _ _ (c .before .before .before .before .before .before .before .before .before .before .before .before .before .before .before .has-receive .ensures) (c .before .before .before .before .before .before .before .before .before .before .before .before .before .if1 .left)) ∙ first-later _ _ (itself-when (c .before .before .before .before .before .before .before .before .before .before .before .before .before .before .before .before .before .args .op) _ (c .before .before .before .before .before .before .before .before .before .before .before .before .before .before .before .before .before .args .x) _ (c .before .before .before .before .before .before .before .before .before .before .closed-on .ensures) (c .before .before .before .before .before .before .before .before .before .if2 .left)) ∙ first-later _ _ (partner-when (c .before .before .before .before .before .before .before .before .before .before .before .before .before .before .before .before .before .args .op) _ t (c .before .before .before .before .before .before .before .before .before .before .before .before .before .before .before .before .before .args .n) e _ (c .before .before .before .before .before .before .before .before .closed-beyond .ensures) (c .before .before .before .before .before .before .before .if3 .left)) ∙ first-later _ _ (words-when (c .before .before .before .before .before .before .before .before .before .before .before .before .before .before .before .before .before .args .op) _ (c .before .before .before .before .if4 .left)) ∙ first-later _ _ (time-when (c .before .before .before .before .before .before .before .before .before .before .before .before .before .before .before .before .before .args .op) _ _ _ (c .before .before .before .before .before .before .before .before .before .before .before .before .before .before .before .has-receive .ensures) (c .before .receive-time .ensures) (c .if5 .left)) ∙ first-none)

@@ -4,10 +4,10 @@ use native.Mathlib.Omega.{arith}
 use lib.ListN.{length, length-set}
 use borrow.Author.Needs.{needs}
 use Rattle.model.specs.Threads.{at}
-use Rattle.engine.proofs.Reports.{outcomes-more}
-use Rattle.engine.specs.Report.{OutcomesUpTo}
-use Rattle.engine.proofs.outcomes_of.Statement.{statement}
-use Rattle.engine.proofs.outcomes_of.Tie as tie
+use Rattle.outcomes.specs.Report.{OutcomesUpTo}
+use Rattle.outcomes.proofs.Reports.{outcomes-more}
+use Rattle.outcomes.proofs.outcomes_of.Statement.{statement}
+use Rattle.outcomes.proofs.outcomes_of.Tie as tie
 
 -- The loop gathers the outcomes of the first i threads.
 

@@ -3,10 +3,10 @@ use native.Mathlib.Omega.{arith}
 use borrow.Author.Needs.{needs}
 use Rattle.model.specs.Calls.{step}
 use Rattle.model.specs.Threads.{at}
-use Rattle.engine.proofs.Refused.{table-number, later-number, table-formed, table-few, place-below, place-store}
-use Rattle.engine.proofs.Shown.{words-refused, words-shown, count-fits}
-use Rattle.engine.proofs.outcome_words.Statement.{statement}
-use Rattle.engine.proofs.outcome_words.Tie as tie
+use Rattle.outcomes.proofs.Shown.{words-refused, words-shown, count-fits}
+use Rattle.refusals.proofs.Groups.{table-number, later-number, table-formed, table-few, place-below, place-store}
+use Rattle.outcomes.proofs.outcome_words.Statement.{statement}
+use Rattle.outcomes.proofs.outcome_words.Tie as tie
 
 table-refusal-requires : tie.Need-table-refusal-requires
 table-refusal-requires c κs = search needs

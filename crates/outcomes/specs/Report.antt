@@ -9,7 +9,7 @@ use Rattle.model.specs.declared.Table.{Table}
 use Rattle.model.specs.Answers.{accepted, refused, replied, said}
 use Rattle.model.specs.Threads.{at}
 use Rattle.model.specs.Refusals.{unless, reportRefusal}
-use Rattle.engine.specs.declared.Report.{Report}
+use Rattle.outcomes.specs.declared.Report.{Report}
 
 -- the outcome that is read past an array's end
 abbrev pub zeroOutcome : Outcome

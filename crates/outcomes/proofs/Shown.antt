@@ -1,36 +1,23 @@
--- What making a table and the outcome call promise, by the code's tests.
+-- What the outcome call promises, by the code's tests.
 use mathlib.Core.Path.{_≡_, refl, sym, _∙_}
 use mathlib.Core.Logic.{_≢_}
 use mathlib.Core.Bool.{true}
 use mathlib.Core.List.{[]}
-use Prim.Native.Nat.{ℕ, suc, _≤_, _<_}
+use Prim.Native.Nat.{ℕ, _≤_, _<_}
 use lib.ListN.{take}
 use borrow.Author.Tests.{leb-true}
-use Rattle.model.specs.declared.Answer.the-variants.{Refused, Accepted}
 use Rattle.model.specs.declared.Table.{Table}
 use Rattle.model.specs.Answers.{SaidOutcome, shown}
 use Rattle.model.specs.Shared.{wordLimit}
-use Rattle.model.specs.Threads.{newTable, at, wordsAt}
+use Rattle.model.specs.Threads.{at, wordsAt}
 use Rattle.model.specs.WellFormed.{numbersInRange, wellFormed}
 use Rattle.model.specs.Calls.{step, State}
-use Rattle.model.specs.Refusals.{unless, refusal, makeRefusal, outcomeRefusal}
-use Rattle.model.specs.Promise.{makeAnswer, madeTable, MakePromise, view, outcomeAnswer, outcomeWords}
+use Rattle.model.specs.Refusals.{unless, refusal, outcomeRefusal}
+use Rattle.model.specs.Promise.{view, outcomeAnswer, outcomeWords}
 use Rattle.model.proofs.Laws.{all-of-read}
 use Rattle.model.proofs.Tested.{well-formed-told}
 use Rattle.laws.proofs.Lists.{zero-or-not}
 use Rattle.laws.proofs.Refusals.{outcome-as-step}
-
--- ---- making a table
-module _ (n g : ℕ) (e : g ≡ makeRefusal n) where
-  -- none made
-  pub make-refused : g ≢ 0 → MakePromise n (Refused g) (newTable 0)
-  unfolding makeAnswer madeTable unless
-  make-refused d = zero-or-not g (λ z. absurd (d z)) (λ k is. let r : makeRefusal n ≡ suc k = sym e ∙ is in record { answers = rw (is, r) refl; makes = rw r refl })
-
-  -- one made
-  pub make-accepted : g ≡ 0 → MakePromise n Accepted (newTable n)
-  unfolding makeAnswer madeTable unless
-  make-accepted z = let r : makeRefusal n ≡ 0 = sym e ∙ z in record { answers = rw r refl; makes = rw r refl }
 
 -- ---- the outcome call, which is refused as a step is
 module _ (s : State) (x g : ℕ) (e : g ≡ refusal (step x) s) where

@@ -1,8 +1,8 @@
 use mathlib.Core.Path.{sym, _∙_}
 use borrow.Author.Needs.{needs}
-use Rattle.engine.proofs.Refused.{size-refuses, check-refuses, check-passes}
-use Rattle.engine.proofs.table_refusal.Statement.{statement}
-use Rattle.engine.proofs.table_refusal.Tie as tie
+use Rattle.refusals.proofs.Groups.{size-refuses, check-refuses, check-passes}
+use Rattle.refusals.proofs.table_refusal.Statement.{statement}
+use Rattle.refusals.proofs.table_refusal.Tie as tie
 
 size-refusal-requires : tie.Need-size-refusal-requires
 size-refusal-requires c κs = search needs

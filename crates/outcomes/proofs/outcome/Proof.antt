@@ -3,10 +3,10 @@ use native.Mathlib.Omega.{arith}
 use borrow.Author.Needs.{needs}
 use Rattle.model.specs.Calls.{step}
 use Rattle.model.specs.Threads.{at}
-use Rattle.engine.proofs.Refused.{table-number, later-number, table-few, place-below}
-use Rattle.engine.proofs.Shown.{outcome-refused, outcome-shown}
-use Rattle.engine.proofs.outcome.Statement.{statement}
-use Rattle.engine.proofs.outcome.Tie as tie
+use Rattle.outcomes.proofs.Shown.{outcome-refused, outcome-shown}
+use Rattle.refusals.proofs.Groups.{table-number, later-number, table-few, place-below}
+use Rattle.outcomes.proofs.outcome.Statement.{statement}
+use Rattle.outcomes.proofs.outcome.Tie as tie
 
 table-refusal-requires : tie.Need-table-refusal-requires
 table-refusal-requires c κs = search needs

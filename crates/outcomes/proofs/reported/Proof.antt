@@ -1,9 +1,9 @@
 use native.Mathlib.Omega.{arith}
 use borrow.Author.Needs.{needs}
-use Rattle.engine.proofs.Refused.{table-few, report-table, report-wrong-length, report-right-length}
-use Rattle.engine.proofs.Reports.{refused-report, accepted-report}
-use Rattle.engine.proofs.reported.Statement.{statement}
-use Rattle.engine.proofs.reported.Tie as tie
+use Rattle.outcomes.proofs.Reports.{report-table, report-wrong-length, report-right-length, refused-report, accepted-report}
+use Rattle.refusals.proofs.Groups.{table-few}
+use Rattle.outcomes.proofs.reported.Statement.{statement}
+use Rattle.outcomes.proofs.reported.Tie as tie
 
 outcomes-of-requires : tie.Need-outcomes-of-requires
 outcomes-of-requires c κs = search needs
