@@ -11,7 +11,7 @@ use Rattle.model.specs.Lists.{implies}
 use Rattle.model.specs.Shared.{wordLimit, isTimeCode}
 use Rattle.model.specs.Threads.{copy, release, wake, unlock}
 use Rattle.model.specs.WellFormed.{sendInRange}
-use Rattle.model.proofs.Laws.{and-left, and-right, implies-read, _and_, all-of-read, All}
+use Rattle.model.proofs.Laws.{and-left, and-right, implies-read, all-of-read, All}
 use Rattle.formed.proofs.Flags.{cases, isOneOf, told-any}
 use Rattle.formed.proofs.Own.{operationFits, phaseFits, queueFits, Own}
 
@@ -63,11 +63,6 @@ module _ {n x : ℕ} {h : Thread} (w : Own n x h) where
   pub target-below : isOneOf (release ∷ []) (h .phase) ≡ true → h .op .send .target < n
   unfolding phaseFits
   target-below e = ltb-true (h .op .send .target) n (implies-read _ _ (all-of-read _ (w .phase) .0) e)
-
-  -- in copy at most all its words are copied
-  pub copied-small : isOneOf (copy ∷ []) (h .phase) ≡ true → h .copied ≤ h .op .send .count
-  unfolding phaseFits
-  copied-small e = leb-true (h .copied) (h .op .send .count) (implies-read _ _ (all-of-read _ (w .phase) .1 .1 .0) e)
 
   -- in wake and unlock the sender being woken is a thread of the table
   pub woken-below : isOneOf (wake ∷ unlock ∷ []) (h .phase) ≡ true → h .waking < n

@@ -1,19 +1,11 @@
 // The caller's word store, by slices of it: thread x's eight words start at place 8 × x.
 ghost use mathlib.Core.Path.{_≡_};
-ghost use Prim.Native.Nat.{_+_, _*_, _<_, _≤_};
-ghost use lib.ListN.{length, set, take, replicate};
+ghost use Prim.Native.Nat.{_+_, _*_, _≤_};
+ghost use lib.ListN.{length, take, replicate};
 ghost use Rattle.model.specs.Threads.{wordsAt, zeroed};
 
 // How many words a thread has.
 const WORDS: usize = 8;
-
-// One word into a thread's eight.
-pub fn put_word(words: &mut [u32], k: usize, w: u32)
-    requires { ⌜ k < length (now words) ⌝ }
-    ensures { λ _. ⌜ now (words .exit) ≡ set (now (words .entry)) k w ⌝ }
-{
-    words[k] = w;
-}
 
 // Zero in every word of a slice.
 pub fn zero_words(words: &mut [u32])
