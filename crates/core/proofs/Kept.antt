@@ -1,22 +1,24 @@
 -- A table that is checked once needs no check again: every call leaves a checked table, and from one the cheap tests alone show that a call may run.
-use mathlib.Core.Path.{_≡_, refl, ap, _∙_}
+use mathlib.Core.Path.{_≡_, refl, sym, ap, _∙_, subst}
 use mathlib.Core.Bool.{true, false, not}
 use mathlib.Core.List.{List, [], _∷_, _++_}
 use Prim.Native.Nat.{ℕ, _*_, _≤_, _<_}
 use lib.ListN.{length}
-use lib.Dec.{leb}
-use borrow.Author.Tests.{leb-true, lt-leb, eq-eqb}
+use borrow.Author.Tests.{lt-leb, eq-eqb}
 use Rattle.model.specs.declared.Operation.{Operation}
 use Rattle.model.specs.declared.Table.{Table}
+use Rattle.model.specs.declared.Answer.{Answer}
 use Rattle.model.specs.Threads.{newTable, at, lockFree}
-use Rattle.model.specs.WellFormed.{sizeInRange, Shaped, WellFormed, wellFormed}
+use Rattle.model.specs.WellFormed.{Shaped, WellFormed, wellFormed}
 use Rattle.model.specs.Calls.{Call, begin, step, cancel, tick, State}
 use Rattle.model.specs.Refusals.{Row, firstRefusal, unless, badSize, notWellFormed, noThread, badLength, lockOwned, notIdle, neitherPart, withItself, noPartner, tooManyWords, badTime, threadAndStoreRows, rowsOf, refusal, makeRefusal}
-use Rattle.model.specs.Promise.{madeTable, next}
-use Rattle.model.proofs.Laws.{and-right, _and_}
+use Rattle.model.specs.Promise.{next, state, Promise, madeTable}
+use Rattle.model.proofs.Laws.{_and_}
+use Rattle.model.proofs.Numbers.{size-read}
 use Rattle.model.proofs.Tested.{well-formed-tested, well-formed-told}
 use Rattle.laws.proofs.Rows.{NoneHolds, rows-passed}
 use Rattle.invariant.proofs.New.{new-size, new-shaped, made-well-formed}
+use Rattle.invariant.proofs.Frames.{next-size, next-store-length}
 use Rattle.invariant.proofs.Keeps.{keeps-shaped, keeps-test}
 
 -- a table from which the core may run: it has passed the check, or was left by a call that started from one that had
@@ -33,8 +35,7 @@ module _ (n : ℕ) (made : makeRefusal n ≡ 0) where
 
   -- it has at most 32 threads
   new-few : n ≤ 32
-  unfolding sizeInRange
-  new-few = leb-true n 32 (and-right (leb 1 n) (leb n 32) (rw (new-size n) at (new-formed .size)))
+  new-few = size-read n (rw (new-size n) at (new-formed .size)) .1
 
   -- so it counts as checked
   pub new-checked : Checked (newTable n)
@@ -43,6 +44,27 @@ module _ (n : ℕ) (made : makeRefusal n ≡ 0) where
 -- every call, refused or not, leaves a checked table where it found one
 pub keeps-checked : (c : Call) (s : State) → Checked (s .table) → Checked (next c s .table)
 keeps-checked c s k = record { formed = keeps-test c s (k .shaped) (k .formed); shaped = keeps-shaped c s (k .shaped) }
+
+-- ---- states from which calls may run one after the other
+-- the table is checked, and the store has eight words for each thread
+pub record Runnable (s : State) : Type 0 where
+  pub checked : Checked (s .table)
+  pub words : length (s .store) ≡ 8 * s .table .n
+
+-- a new table of a lawful size, with a store of its length
+pub new-runnable : (n : ℕ) (store : List ℕ) → makeRefusal n ≡ 0 → length store ≡ 8 * n → Runnable (state (newTable n) store)
+new-runnable n store made fit = record { checked = new-checked n made; words = fit ∙ ap (λ (k : ℕ). 8 * k) (sym (new-size n)) }
+
+-- a call that keeps its promise leaves such a state where it found one: a loop that has one needs no check
+pub keeps-runnable : (c : Call) (s : State) (a : Answer) (after : State) → Promise c s a after → Runnable s → Runnable after
+keeps-runnable c s a after kept r = subst Runnable (sym (kept .leaves)) (record {
+  checked = keeps-checked c s (r .checked);
+  words = next-store-length c s ∙ r .words ∙ ap (λ (k : ℕ). 8 * k) (sym (next-size c s));
+})
+
+-- and as many threads
+pub keeps-size : (c : Call) (s : State) (a : Answer) (after : State) → Promise c s a after → after .table .n ≡ s .table .n
+keeps-size c s a after kept = ap (λ (u : State). u .table .n) (kept .leaves) ∙ next-size c s
 
 -- ---- what the cheap tests give, where the table has passed the check
 module _ (s : State) (formed : wellFormed (s .table) ≡ true) where

@@ -6,8 +6,7 @@ use Prim.Native.Nat.{ℕ, _+_, _*_, _≤_, _<_}
 use native.Mathlib.Numerals.{add-one}
 use native.Mathlib.Omega.{arith}
 use lib.ListN.{length}
-use lib.Dec.{leb}
-use borrow.Author.Tests.{leb-true, le-leb, lt-leb}
+use borrow.Author.Tests.{le-leb, lt-leb}
 use mir.Val.{Val}
 use denote.Shadow.{shadow}
 use Rattle.model.specs.declared.Operation.{Operation}
@@ -18,12 +17,12 @@ use Rattle.model.specs.declared.Answer.the-variants.{Accepted, Marked, NothingT
 use Rattle.model.specs.Answers.{replied, said}
 use Rattle.model.specs.Shared.{noReceiver, codeOnly, targetBeyond}
 use Rattle.model.specs.Threads.{lock, look, at, put, edit, editBelow, marked, ended, joined, zeroed}
-use Rattle.model.specs.WellFormed.{sizeInRange, Shaped}
+use Rattle.model.specs.WellFormed.{Shaped}
 use Rattle.model.specs.Calls.{begun, beginTable, cancelTable, cancelReply, ticked, tickTable, Call, begin, cancel, tick, State, acceptedReply, acceptedState}
 use Rattle.model.specs.Refusals.{rowsOf, refusal}
 use Rattle.model.specs.Promise.{state, Promise}
 use Rattle.model.proofs.Table.{the-row}
-use Rattle.model.proofs.Laws.{and-right}
+use Rattle.model.proofs.Numbers.{size-read}
 use Rattle.model.proofs.Tested.{well-formed-told}
 use Rattle.model.proofs.Free.{target-beyond}
 use Rattle.laws.proofs.Refusals.{AcceptedBegin, accepted-table, accepted-begin, accepted-cancel}
@@ -41,8 +40,7 @@ module _ (c : Call) (s : State) where
   module _ (e : refusal c s ≡ 0) where
     -- a call that is not refused finds at most 32 threads
     pub accepted-few : s .table .n ≤ 32
-    unfolding sizeInRange
-    accepted-few = let sized = well-formed-told (s .table) (accepted-table c s e) .size in leb-true (s .table .n) 32 (and-right (leb 1 (s .table .n)) (leb (s .table .n) 32) sized)
+    accepted-few = size-read (s .table .n) (well-formed-told (s .table) (accepted-table c s e) .size) .1
 
     -- its table's arrays are whole, as the table's type tells
     pub accepted-shaped : (vs : List Val) → shadow (the-row .own (s .table) vs) → Shaped (s .table)

@@ -4,14 +4,13 @@ use mathlib.Core.Bool.{true, cond}
 use mathlib.Core.List.{[], _∷_}
 use Prim.Native.Nat.{ℕ, _≤_, _<_}
 use native.Mathlib.Omega.{arith}
-use lib.Dec.{leb}
-use borrow.Author.Tests.{leb-true}
 use Rattle.model.specs.declared.Thread.{Thread}
 use Rattle.model.specs.declared.Table.{Table}
 use Rattle.model.specs.Shared.{nobody}
 use Rattle.model.specs.Threads.{copy, phaseOf, at, senders, ready, lockHeld}
 use Rattle.model.specs.WellFormed.{sizeInRange, inPhase, sendsTo, ownerOf, copiesToReady, Shaped, WellFormed}
-use Rattle.model.proofs.Laws.{by, and-right, implies-read, implies-made}
+use Rattle.model.proofs.Laws.{by, implies-read, implies-made}
+use Rattle.model.proofs.Numbers.{size-read}
 use Rattle.formed.proofs.Flags.{cases, isOneOf}
 use Rattle.formed.proofs.Own.{Own, OwnClauses, own-grouped, own-ungrouped}
 use Rattle.formed.proofs.Facts.{copy-sends, target-other}
@@ -49,8 +48,7 @@ pub record Formed (n : ℕ) (T : ℕ → Thread) : Type 0 where
 module _ (t : Table) (w : WellFormed t) (z : Shaped t) where
   -- there are at most 32 threads
   small : t .n ≤ 32
-  unfolding sizeInRange
-  small = leb-true (t .n) 32 (and-right (leb 1 (t .n)) (leb (t .n) 32) (w .size))
+  small = size-read (t .n) (w .size) .1
 
   -- the clause on copies, by the readings
   copies-read : Copies (t .n) (of copiesTo (at t)) (of ready (at t))

@@ -1,6 +1,5 @@
 -- The actions of a step that take a lock or free one: each keeps the threads well-formed.
 use mathlib.Core.Path.{_≡_, refl, sym, _∙_, subst}
-use mathlib.Core.Logic.{_≢_}
 use mathlib.Core.Bool.{true≢false, true, false, not}
 use Prim.Native.Nat.{ℕ, _≤_, _<_}
 use Rattle.model.specs.declared.Thread.{Thread}

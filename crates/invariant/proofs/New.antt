@@ -5,8 +5,8 @@ use mathlib.Core.List.{[], _∷_}
 use Prim.Native.Nat.{ℕ, suc, _≤_, _<_}
 use native.Mathlib.Omega.{arith}
 use lib.ListN.{length-replicate, getD-replicate}
-use lib.Dec.{leb, ltb}
-use borrow.Author.Tests.{ltb-true, leb-true, le-leb, not-false}
+use lib.Dec.{ltb}
+use borrow.Author.Tests.{ltb-true, not-false}
 use Rattle.model.specs.declared.Thread.{Thread}
 use Rattle.model.specs.Lists.{implies, allOf, occurs}
 use Rattle.model.specs.Shared.{nobody}
@@ -14,7 +14,8 @@ use Rattle.model.specs.Threads.{phaseOf, newThread, newTable, zeroThread, at, s
 use Rattle.model.specs.WellFormed.{sizeInRange, inPhase, isCode, nobodyOrBelow, numbersInRange, ipcWithRunning, bareUnlessDone, notWithItself, sendAndMarkWithIpc, pollWithSend, receivingWithPart, ipcWithoutSend, idleWithoutFlags, releaseHasTarget, receiversSendClear, sendersSendSet, copiesToReady, sendsTo, ownerOf, chain, Shaped, Each, WellFormed}
 use Rattle.model.specs.Refusals.{unless, badSize, makeRefusal}
 use Rattle.model.specs.Promise.{madeTable}
-use Rattle.model.proofs.Laws.{by, and-left, and-right, and-made}
+use Rattle.model.proofs.Laws.{by}
+use Rattle.model.proofs.Numbers.{size-read, size-made}
 use Rattle.laws.proofs.Rows.{none-holds}
 
 -- a new table of n threads has n threads
@@ -71,7 +72,7 @@ module _ (n : ℕ) (few : n ≤ 32) where
 pub new-well-formed : (n : ℕ) → 1 ≤ n → n ≤ 32 → WellFormed (newTable n)
 unfolding newThread implies allOf occurs sizeInRange inPhase isCode nobodyOrBelow numbersInRange ipcWithRunning bareUnlessDone notWithItself sendAndMarkWithIpc pollWithSend receivingWithPart ipcWithoutSend idleWithoutFlags releaseHasTarget receiversSendClear sendersSendSet copiesToReady
 new-well-formed n some few = let size = new-size n in record {
-  size = rw size (and-made _ _ (le-leb 1 n some) (le-leb n 32 few));
+  size = rw size (size-made n some few);
   numbers = new-each n few (λ x h. numbersInRange (newTable n .n) h) (λ x. refl);
   ipcExactly = new-each n few (λ x h. ipcWithRunning h) (λ x. refl);
   bareOutcome = new-each n few (λ x h. bareUnlessDone h) (λ x. refl);
@@ -101,7 +102,5 @@ made-size n e = not-false (sizeInRange n) (none-holds (badSize n ∷ []) refl e 
 
 -- a table that is made is well-formed
 pub made-well-formed : (n : ℕ) → makeRefusal n ≡ 0 → WellFormed (madeTable n)
-unfolding madeTable unless sizeInRange
-made-well-formed n e =
-    let size = made-size n e in
-    rw e (new-well-formed n (leb-true 1 n (and-left (leb 1 n) (leb n 32) size)) (leb-true n 32 (and-right (leb 1 n) (leb n 32) size)))
+unfolding madeTable unless
+made-well-formed n e = let (some, few) = size-read n (made-size n e) in rw e (new-well-formed n some few)

@@ -5,8 +5,8 @@ use mathlib.Core.Bool.{Bool, true, _&&_}
 use mathlib.Core.List.{List, [], _∷_}
 use Prim.Native.Nat.{ℕ, suc, _≤_, _<_}
 use native.Mathlib.Omega.{arith}
-use lib.Dec.{leb, ltb}
-use borrow.Author.Tests.{ltb-true, ltb-false, lt-ltb, le-ltb, leb-true, eqb-true, eqb-false, eq-eqb, ne-eqb, not-true}
+use lib.Dec.{ltb}
+use borrow.Author.Tests.{ltb-true, ltb-false, lt-ltb, le-ltb, eqb-true, eqb-false, eq-eqb, ne-eqb, not-true}
 use Rattle.model.specs.declared.Thread.{Thread}
 use Rattle.model.specs.declared.Table.{Table}
 use Rattle.model.specs.Lists.{bit, occurs}
@@ -14,12 +14,12 @@ use Rattle.model.specs.Shared.{nobody}
 use Rattle.model.specs.Threads.{at, senders, lockHeld}
 use Rattle.model.specs.WellFormed.{sizeInRange, sendsTo, ownerOf, chain, Each, WellFormed, each, allUnder, queueTest, ownerTest, chainTest, clauses, wellFormed}
 use Rattle.model.proofs.Laws.{by, and-left, and-right, and-made, equal-alike-read, equal-alike-made, _and_, all-of-read, all-of-made, all-below-read, all-below-made, occurs-first}
+use Rattle.model.proofs.Numbers.{size-read}
 use Rattle.model.proofs.Chains.{chains-long}
 
 -- a well-formed table is small enough that 255 is none of its threads
 pub size-small : (n : ℕ) → sizeInRange n ≡ true → n ≤ nobody
-unfolding sizeInRange
-size-small n e = let l = leb-true n 32 (and-right (leb 1 n) (leb n 32) e) in omega arith
+size-small n e = let l = size-read n e .1 in omega arith
 
 -- a list where no number from n on stands passes the test that all are below n
 under-made : (n : ℕ) (q : List ℕ) → ((s : ℕ) → n ≤ s → occurs s q ≡ 0) → allUnder n q ≡ true

@@ -1,16 +1,15 @@
 // What users see of a table: a thread's outcome and its words, and a report of all threads.
 ghost use mathlib.Core.Path.{_≡_};
-ghost use Prim.Native.Nat.{_<_};
 ghost use lib.ListN.{getD};
 ghost use Rattle.model.specs.Answers.{saidOutcome};
 ghost use Rattle.model.specs.Promise.{state, outcomeAnswer, outcomeWords};
-ghost use Rattle.outcomes.specs.Report.{zeroOutcome, OutcomesUpTo, Reported};
+ghost use Rattle.outcomes.specs.Report.{zeroOutcome, allOutcomes, Reported};
 use model::Answer;
 use model::Outcome;
 use model::OutcomeAnswer;
 use model::Table;
 
-// What a report says: its answer, and the outcomes of the table's threads; none where it is refused.
+// What a report says: its answer, how many of the caller's records it fills, none where it is refused, and the outcomes of all 32 threads.
 pub struct Report {
     pub answer: Answer,
     pub len: usize,
@@ -53,15 +52,22 @@ pub fn outcome_words<'a>(table: Table, thread: u8, store: &'a [u32]) -> &'a [u32
     words::first_words(store, thread, shown.count)
 }
 
-// The outcomes of all 32 threads.
-fn outcomes_of(table: Table) -> [Outcome; 32]
-    ensures { λ r. ⌜ OutcomesUpTo 32 table r ⌝ }
+// The outcome that is all zero.
+fn zero_outcome() -> Outcome
+    ensures { λ r. ⌜ r ≡ zeroOutcome ⌝ }
 {
-    let none = Outcome {
+    Outcome {
         code: 0,
         source: 0,
         count: 0,
-    };
+    }
+}
+
+// The outcomes of all 32 threads.
+fn outcomes_of(table: Table) -> [Outcome; 32]
+    ensures { λ r. ⌜ r ≡ allOutcomes table ⌝ }
+{
+    let none = zero_outcome();
     let mut outcomes = [none; 32];
     let mut i: usize = 0;
     while i < 32 {
@@ -101,10 +107,12 @@ pub fn reported(table: Table, records: usize) -> Report
     }
 }
 
-// One outcome of a report.
+// One outcome of a report; past its 32, all zero.
 pub fn outcome_in(report: Report, i: usize) -> Outcome
-    requires { ⌜ i < 32 ⌝ }
     ensures { λ r. ⌜ r ≡ getD (report .outcomes) i zeroOutcome ⌝ }
 {
+    if 32 <= i {
+        return zero_outcome();
+    }
     report.outcomes[i]
 }

@@ -11,9 +11,10 @@ use borrow.Author.Tests.{lt-ltb, le-ltb, eq-eqb, ne-eqb}
 use Rattle.model.specs.declared.Thread.{Thread}
 use Rattle.model.specs.Answers.{wants, asleep}
 use Rattle.model.specs.Shared.{receiveTimeOver, sendTimeOver, receiveCancelled, sendCancelled, nobody, hasReceive}
-use Rattle.model.specs.Threads.{Phase, idle, lock, check, copy, release, sleep, look, wake, unlock, unknown, phases, phaseOf, phaseNumber, lockFree, findSender, ready}
+use Rattle.model.specs.Threads.{Phase, idle, lock, check, copy, release, sleep, look, unknown, phases, phaseOf, phaseNumber, lockFree, findSender, ready}
 use Rattle.model.specs.Step.{Action, stay, takeLock, abortSend, startCopy, toRelease, copyWord, finishCall, finishSend, freeTarget, retry, toIdle, abortReceive, takeSender, other, lookAt, decideIn}
 use Rattle.model.proofs.Laws.{same?}
+use Rattle.model.proofs.Numbers.{phase-read}
 use Rattle.laws.proofs.Decided.{other-in}
 use Rattle.laws.proofs.Lists.{cond-true, cond-false}
 use Rattle.actions.specs.declared.Changed.{Changed}
@@ -24,23 +25,9 @@ use Rattle.phases.specs.Fit.{wordAdded, wordsAfter}
 pub settled : {a b : Action} (x : ℕ) (h r : Thread) (c : Changed) → a ≡ b → Acted b x h r c → Acted a x h r c
 settled x h r c e = subst (λ (a : Action). Acted a x h r c) (sym e)
 
--- a phase's number stands for it
-number-is : (p : Phase) → phaseOf (phaseNumber p) ≡ p
-unfolding phaseOf
-number-is idle = refl
-number-is lock = refl
-number-is check = refl
-number-is copy = refl
-number-is release = refl
-number-is sleep = refl
-number-is look = refl
-number-is wake = refl
-number-is unlock = refl
-number-is unknown = refl
-
 -- a thread with the number of a phase is in it
 pub in-number : (p : Phase) (k : ℕ) → k ≡ phaseNumber p → phaseOf k ≡ p
-in-number p k e = ap phaseOf e ∙ number-is p
+in-number p k e = ap phaseOf e ∙ phase-read p
 
 -- a step that has done what its phase settles on
 pub settled-in : (p : Phase) (x : ℕ) (h r : Thread) (c : Changed) → h .phase ≡ phaseNumber p → Acted (decideIn p x h r) x h r c → Acted (decideIn (phaseOf (h .phase)) x h r) x h r c

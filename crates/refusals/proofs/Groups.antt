@@ -5,16 +5,17 @@ use mathlib.Core.Bool.{true, false, not}
 use mathlib.Core.List.{List, [], _∷_, _++_}
 use Prim.Native.Nat.{ℕ, _*_, _≤_, _<_}
 use lib.ListN.{length}
-use lib.Dec.{eqb, leb}
-use borrow.Author.Tests.{leb-true, leb-false, le-leb, lt-leb, eqb-true, ne-eqb, not-false}
+use lib.Dec.{eqb}
+use borrow.Author.Tests.{leb-false, le-leb, lt-leb, eqb-true, ne-eqb, not-false}
 use Rattle.model.specs.declared.Operation.{Operation}
 use Rattle.model.specs.declared.Table.{Table}
 use Rattle.model.specs.Shared.{nobody}
 use Rattle.model.specs.Threads.{at, lockFree}
-use Rattle.model.specs.WellFormed.{sizeInRange, wellFormed}
+use Rattle.model.specs.WellFormed.{wellFormed}
 use Rattle.model.specs.Calls.{Call, begin, step, cancel, tick, State}
 use Rattle.model.specs.Refusals.{Row, firstRefusal, badSize, notWellFormed, noThread, badLength, lockOwned, threadAndStoreRows, rowsOf, refusal, makeRefusal}
-use Rattle.model.proofs.Laws.{and-right}
+use Rattle.model.proofs.Numbers.{size-read}
+use Rattle.model.proofs.Tested.{well-formed-told}
 use Rattle.laws.proofs.Rows.{none-holds, first-none, first-here, first-later, group-refuses, group-passes}
 use Rattle.refusals.specs.Rows.{tableRows, placeRows, threadRows, operationRows, beginRows}
 
@@ -75,8 +76,7 @@ module _ (t : Table) (f : ℕ) (rows : f ≡ firstRefusal (tableRows t)) (z : f 
 
   -- and at most 32 threads
   pub table-few : t .n ≤ 32
-  unfolding tableRows badSize notWellFormed sizeInRange
-  table-few = leb-true (t .n) 32 (and-right (leb 1 (t .n)) (leb (t .n) 32) (not-false (sizeInRange (t .n)) (none-holds (tableRows t) refl (sym rows ∙ z) .0)))
+  table-few = size-read (t .n) (well-formed-told t table-formed .size) .1
 
 -- ---- the rows on a thread's number and the length of a store
 module _ (t : Table) (x words g : ℕ) (e : g ≡ firstRefusal (placeRows t x words)) (z : g ≡ 0) where

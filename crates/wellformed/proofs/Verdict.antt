@@ -3,13 +3,12 @@ use mathlib.Core.Path.{_≡_, sym, _∙_}
 use mathlib.Core.Bool.{true≢false, false≢true, Bool, true, false}
 use mathlib.Core.List.{List}
 use Prim.Native.Nat.{ℕ, _≤_, _<_}
-use lib.Dec.{leb}
-use borrow.Author.Tests.{leb-true, le-leb}
 use Rattle.model.specs.declared.Table.{Table}
 use Rattle.model.specs.Lists.{allBelow}
 use Rattle.model.specs.Threads.{at, senders, ready}
-use Rattle.model.specs.WellFormed.{sizeInRange, Shaped, WellFormed, wellFormed}
-use Rattle.model.proofs.Laws.{by, and-left, and-right, and-made}
+use Rattle.model.specs.WellFormed.{Shaped, WellFormed, wellFormed}
+use Rattle.model.proofs.Laws.{by}
+use Rattle.model.proofs.Numbers.{size-read, size-made}
 use Rattle.model.proofs.Tested.{well-formed-tested, well-formed-told}
 use Rattle.formed.proofs.Formed.{copiesTo, Formed, formed-grouped, formed-ungrouped}
 use Rattle.threadtests.specs.Alone.{ownFits}
@@ -24,10 +23,7 @@ refused t wrong = by (wellFormed t) (λ e. absurd (wrong (well-formed-told t e))
 
 -- its size is wrong
 pub size-refused : (t : Table) → (1 ≤ t .n → t .n ≤ 32 → ⊥) → false ≡ wellFormed t
-unfolding sizeInRange
-size-refused t wrong = refused t (λ w. wrong
-    (leb-true 1 (t .n) (and-left (leb 1 (t .n)) (leb (t .n) 32) (w .size)))
-    (leb-true (t .n) 32 (and-right (leb 1 (t .n)) (leb (t .n) 32) (w .size))))
+size-refused t wrong = refused t (λ w. let (some, few) = size-read (t .n) (w .size) in wrong some few)
 
 module _ (t : Table) (z : Shaped t) where
   -- its threads are not well-formed
@@ -49,8 +45,7 @@ module _ (t : Table) (z : Shaped t) where
   module _ (some : 1 ≤ t .n) (few : t .n ≤ 32) where
     -- its threads are well-formed
     formed : Formed (t .n) (at t) → true ≡ wellFormed t
-    unfolding sizeInRange
-    formed F = sym (well-formed-tested t (formed-ungrouped t (and-made (leb 1 (t .n)) (leb (t .n) 32) (le-leb 1 (t .n) some) (le-leb (t .n) 32 few)) F))
+    formed F = sym (well-formed-tested t (formed-ungrouped t (size-made (t .n) some few) F))
 
     -- all threads passed, and it is told whether what was gathered fits together
     pub links-verdict : {targets owners held waits : List ℕ} → Passed t (t .n) targets owners held waits

@@ -16,7 +16,9 @@ end-with-requires c κs = search needs
 
 returns : tie.Need-returns
 unfolding received
-returns c = λ h e. c .end-with .ensures ∙ ap (λ (r : Thread). ended (record { code = done; source = c .before .before .args .x; count = c .before .before .args .count }) r) (c .before .depart .ensures) ∙ ap (λ (k : ℕ). ended (record { code = done; source = c .before .before .args .x; count = k }) (departed (c .before .before .args .x) (c .before .before .args .other))) (sym e)
+returns c =
+    let a = c .before .before .args in
+    λ h e. c .end-with .ensures ∙ ap (λ (r : Thread). ended (record { code = done; source = a .x; count = a .count }) r) (c .before .depart .ensures) ∙ ap (λ (k : ℕ). ended (record { code = done; source = a .x; count = k }) (departed (a .x) (a .other))) (sym e)
 
 pub complete-receive-spec : {M : Type 1} → statement M
 complete-receive-spec = tie.close (tie.spec depart-requires end-with-requires returns)

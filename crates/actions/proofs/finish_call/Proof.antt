@@ -18,11 +18,13 @@ complete-receive-requires c κs = search needs
 
 returns : tie.Need-returns
 unfolding replyOf ownAfter otherAfter
-returns c = record {
-  own = ap (λ (k : ℕ). entering release (withLeft k (sent (c .before .before .before .before .before .before .before .args .own)))) (c .before .tick-count .ensures ∙ ap tickCount (c .before .before .receive-time .ensures));
-  other = c .complete-receive .ensures (c .before .before .before .before .before .before .before .args .own) refl;
-  answers = refl;
-}
+returns c =
+    let a = c .before .before .before .before .before .before .before .args in
+    record {
+      own = ap (λ (k : ℕ). entering release (withLeft k (sent (a .own)))) (c .before .tick-count .ensures ∙ ap tickCount (c .before .before .receive-time .ensures));
+      other = c .complete-receive .ensures (a .own) refl;
+      answers = refl;
+    }
 
 pub finish-call-spec : {M : Type 1} → statement M
 finish-call-spec =

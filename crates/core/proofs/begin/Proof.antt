@@ -44,7 +44,9 @@ element-copy-out-target c = search target-place
 
 join-requires : tie.Need-join-requires
 unfolding at
-join-requires c κs = target-room _ _ _ (c .before .before .before .before .before .before .before .before .before .before .before .before .pre) (accepted-shaped _ _ (c .before .before .before .before .before .before .before .before .before .before .before .before .pre) _ (c .before .before .before .before .before .before .before .before .before .before .before .before .good .0)) (c .before .before .if2 .left)
+join-requires c κs =
+    let asked = c .before .before .before .before .before .before .before .before .before .before .before .before .pre in
+    target-room _ _ _ asked (accepted-shaped _ _ asked _ (c .before .before .before .before .before .before .before .before .before .before .before .before .good .0)) (c .before .before .if2 .left)
 
 mul-h-2 : tie.Need-mul-h-2
 mul-h-2 c = search needs

@@ -14,11 +14,15 @@ element-copy-out-own c = in-array (c .before .args .x) _ (c .before .pre) (accep
 
 returns : tie.Need-returns
 unfolding at
-returns c = held-stays (c .before .before .before .before .args .x) _ (c .before .before .before .before .pre) (accepted-shaped _ _ (c .before .before .before .before .pre) _ (c .before .before .before .before .good .0)) (c .if1 .taken)
+returns c =
+    let asked = c .before .before .before .before .pre in
+    held-stays (c .before .before .before .before .args .x) _ asked (accepted-shaped _ _ asked _ (c .before .before .before .before .good .0)) (c .if1 .taken)
 
 other-number-requires : tie.Need-other-number-requires
 unfolding at
-other-number-requires c κs = queue-fits (c .before .before .before .before .args .x) _ (c .before .before .before .before .pre) (accepted-shaped _ _ (c .before .before .before .before .pre) _ (c .before .before .before .before .good .0))
+other-number-requires c κs =
+    let asked = c .before .before .before .before .pre in
+    queue-fits (c .before .before .before .before .args .x) _ asked (accepted-shaped _ _ asked _ (c .before .before .before .before .good .0))
 
 other-or-own-requires : tie.Need-other-or-own-requires
 other-or-own-requires c κs = search needs
@@ -31,7 +35,9 @@ mul-other c = search needs
 
 element-copy-out-other : tie.Need-element-copy-out-other
 unfolding at
-element-copy-out-other c = other-in-array (c .before .before .before .before .before .before .args .x) _ (c .before .before .before .before .before .before .pre) (accepted-shaped _ _ (c .before .before .before .before .before .before .pre) _ (c .before .before .before .before .before .before .good .0)) _ _ (c .before .other-number .ensures) (c .other-or-own .ensures)
+element-copy-out-other c =
+    let asked = c .before .before .before .before .before .before .pre in
+    other-in-array (c .before .before .before .before .before .before .args .x) _ asked (accepted-shaped _ _ asked _ (c .before .before .before .before .before .before .good .0)) _ _ (c .before .other-number .ensures) (c .other-or-own .ensures)
 
 mul-a : tie.Need-mul-a
 mul-a c = search needs
@@ -50,32 +56,47 @@ part-step-threads-start c = search needs
 
 part-step-threads-end : tie.Need-part-step-threads-end
 unfolding at
-part-step-threads-end c = slice-ends (c .before .before .before .before .before .before .before .args .x) _ (c .before .before .before .before .before .before .before .pre) (accepted-shaped _ _ (c .before .before .before .before .before .before .before .pre) _ (c .before .before .before .before .before .before .before .good .0)) _ _ (c .before .before .other-number .ensures) (c .before .other-or-own .ensures)
+part-step-threads-end c =
+    let asked = c .before .before .before .before .before .before .before .pre in
+    slice-ends (c .before .before .before .before .before .before .before .args .x) _ asked (accepted-shaped _ _ asked _ (c .before .before .before .before .before .before .before .good .0)) _ _ (c .before .before .other-number .ensures) (c .before .other-or-own .ensures)
 
 step-threads-requires : tie.Need-step-threads-requires
 unfolding at
-step-threads-requires c κs = (fits-here (c .before .before .before .before .before .before .before .before .args .x) _ (c .before .before .before .before .before .before .before .before .pre) (accepted-shaped _ _ (c .before .before .before .before .before .before .before .before .pre) _ (c .before .before .before .before .before .before .before .before .good .0)) _ _ (c .before .before .before .other-number .ensures) (c .before .before .other-or-own .ensures), slice-eight (c .before .before .before .before .before .before .before .before .args .x) _ (c .before .before .before .before .before .before .before .before .pre) (accepted-shaped _ _ (c .before .before .before .before .before .before .before .before .pre) _ (c .before .before .before .before .before .before .before .before .good .0)) _ _ (c .before .before .before .other-number .ensures) (c .before .before .other-or-own .ensures))
+step-threads-requires c κs =
+    let a = c .before .before .before .before .before .before .before .before .args in
+    let asked = c .before .before .before .before .before .before .before .before .pre in
+    let typed = c .before .before .before .before .before .before .before .before .good in
+    let other-number-result = c .before .before .before .other-number .ensures in
+    let other-or-own-result = c .before .before .other-or-own .ensures in
+    (fits-here (a .x) _ asked (accepted-shaped _ _ asked _ (typed .0)) _ _ other-number-result other-or-own-result, slice-eight (a .x) _ asked (accepted-shaped _ _ asked _ (typed .0)) _ _ other-number-result other-or-own-result)
 
 mul-theirs : tie.Need-mul-theirs
 mul-theirs c = search needs
 
 element-set-from-theirs : tie.Need-element-set-from-theirs
 unfolding at
-element-set-from-theirs c = other-in-array (c .before .before .before .before .before .before .before .before .before .before .before .before .before .args .x) _ (c .before .before .before .before .before .before .before .before .before .before .before .before .before .pre) (accepted-shaped _ _ (c .before .before .before .before .before .before .before .before .before .before .before .before .before .pre) _ (c .before .before .before .before .before .before .before .before .before .before .before .before .before .good .0)) _ _ (c .before .before .before .before .before .before .before .before .other-number .ensures) (c .before .before .before .before .before .before .before .other-or-own .ensures)
+element-set-from-theirs c =
+    let asked = c .before .before .before .before .before .before .before .before .before .before .before .before .before .pre in
+    other-in-array (c .before .before .before .before .before .before .before .before .before .before .before .before .before .args .x) _ asked (accepted-shaped _ _ asked _ (c .before .before .before .before .before .before .before .before .before .before .before .before .before .good .0)) _ _ (c .before .before .before .before .before .before .before .before .other-number .ensures) (c .before .before .before .before .before .before .before .other-or-own .ensures)
 
 mul-mine : tie.Need-mul-mine
 mul-mine c = search needs
 
 element-set-from-mine : tie.Need-element-set-from-mine
 unfolding at
-element-set-from-mine c = in-array (c .before .before .before .before .before .before .before .before .before .before .before .before .before .args .x) _ (c .before .before .before .before .before .before .before .before .before .before .before .before .before .pre) (accepted-shaped _ _ (c .before .before .before .before .before .before .before .before .before .before .before .before .before .pre) _ (c .before .before .before .before .before .before .before .before .before .before .before .before .before .good .0))
+element-set-from-mine c =
+    let asked = c .before .before .before .before .before .before .before .before .before .before .before .before .before .pre in
+    in-array (c .before .before .before .before .before .before .before .before .before .before .before .before .before .args .x) _ asked (accepted-shaped _ _ asked _ (c .before .before .before .before .before .before .before .before .before .before .before .before .before .good .0))
 
 same-length : tie.Need-same-length
 same-length c = search needs
 
 returns-2 : tie.Need-returns-2
 unfolding at put
-returns-2 c = stepped (c .before .before .before .before .before .before .before .before .before .before .before .before .before .args .x) _ (c .before .before .before .before .before .before .before .before .before .before .before .before .before .pre) (accepted-shaped _ _ (c .before .before .before .before .before .before .before .before .before .before .before .before .before .pre) _ (c .before .before .before .before .before .before .before .before .before .before .before .before .before .good .0)) _ _ (c .before .before .before .before .before .before .before .before .other-number .ensures) (c .before .before .before .before .before .before .before .other-or-own .ensures) (c .before .before .before .before .before .before .before .before .before .if1 .left) (c .before .before .before .before .step-threads .result) _ (c .before .before .before .before .step-threads .ensures .0) (c .before .before .before .before .step-threads .ensures .1)
+returns-2 c =
+    let asked = c .before .before .before .before .before .before .before .before .before .before .before .before .before .pre in
+    let step-threads-result = c .before .before .before .before .step-threads .ensures in
+    stepped (c .before .before .before .before .before .before .before .before .before .before .before .before .before .args .x) _ asked (accepted-shaped _ _ asked _ (c .before .before .before .before .before .before .before .before .before .before .before .before .before .good .0)) _ _ (c .before .before .before .before .before .before .before .before .other-number .ensures) (c .before .before .before .before .before .before .before .other-or-own .ensures) (c .before .before .before .before .before .before .before .before .before .if1 .left) (c .before .before .before .before .step-threads .result) _ (step-threads-result .0) (step-threads-result .1)
 
 pub step-spec : {M : Type 1} → statement M
 step-spec =

@@ -19,7 +19,9 @@ refuse-requires : tie.Need-refuse-requires
 refuse-requires c κs = search needs
 
 returns : tie.Need-returns
-returns c = refused-as _ (c .refuse .ensures) (table-refuses (begin (c .before .before .before .before .args .thread) (c .before .before .before .before .args .op)) _ _ (c .before .before .table-refusal .ensures) (c .before .if1 .taken))
+returns c =
+    let a = c .before .before .before .before .args in
+    refused-as _ (c .refuse .ensures) (table-refuses (begin (a .thread) (a .op)) _ _ (c .before .before .table-refusal .ensures) (c .before .if1 .taken))
 
 place-refusal-requires : tie.Need-place-refusal-requires
 place-refusal-requires c κs = search needs
@@ -28,13 +30,18 @@ refuse-requires-2 : tie.Need-refuse-requires-2
 refuse-requires-2 c κs = search needs
 
 returns-2 : tie.Need-returns-2
-returns-2 c = refused-as _ (c .refuse2 .ensures) (later-refuses (begin (c .before .before .before .before .before .before .args .thread) (c .before .before .before .before .before .before .args .op)) _ _ (c .before .before .before .before .table-refusal .ensures) (c .before .before .before .if1 .left) _ (place-before-begin (c .before .before .before .before .before .before .args .thread) (c .before .before .before .before .before .before .args .op) (state (c .before .before .before .before .before .before .args .t1) (now (c .before .before .before .before .before .before .args .store))) _ (c .before .before .place-refusal .ensures (c .before .before .before .before .before .before .args .t1) refl) (c .before .if2 .taken)) (c .before .if2 .taken))
+returns-2 c =
+    let a = c .before .before .before .before .before .before .args in
+    let test2 = c .before .if2 .taken in
+    refused-as _ (c .refuse2 .ensures) (later-refuses (begin (a .thread) (a .op)) _ _ (c .before .before .before .before .table-refusal .ensures) (c .before .before .before .if1 .left) _ (place-before-begin (a .thread) (a .op) (state (a .t1) (now (a .store))) _ (c .before .before .place-refusal .ensures (a .t1) refl) test2) test2)
 
 mul-own : tie.Need-mul-own
 mul-own c = search needs
 
 element-copy-out-own : tie.Need-element-copy-out-own
-element-copy-out-own c = omega (arith, table-few _ _ (c .before .before .before .table-refusal .ensures) (c .before .before .if1 .left), place-below (c .before .before .before .before .before .args .t1) _ _ _ (c .before .place-refusal .ensures (c .before .before .before .before .before .args .t1) refl) (c .if2 .left))
+element-copy-out-own c =
+    let a = c .before .before .before .before .before .args in
+    omega (arith, table-few _ _ (c .before .before .before .table-refusal .ensures) (c .before .before .if1 .left), place-below (a .t1) _ _ _ (c .before .place-refusal .ensures (a .t1) refl) (c .if2 .left))
 
 begin-refusal-requires : tie.Need-begin-refusal-requires
 begin-refusal-requires c κs = search needs
@@ -44,11 +51,17 @@ refuse-requires-3 c κs = search needs
 
 returns-3 : tie.Need-returns-3
 unfolding at
-returns-3 c = refused-as _ (c .refuse3 .ensures) (later-refuses (begin (c .before .before .before .before .before .before .before .before .before .args .thread) (c .before .before .before .before .before .before .before .before .before .args .op)) _ _ (c .before .before .before .before .before .before .before .table-refusal .ensures) (c .before .before .before .before .before .before .if1 .left) _ (begin-after-place (c .before .before .before .before .before .before .before .before .before .args .thread) (c .before .before .before .before .before .before .before .before .before .args .op) (state (c .before .before .before .before .before .before .before .before .before .args .t1) (now (c .before .before .before .before .before .before .before .before .before .args .store))) _ _ (c .before .before .before .before .before .place-refusal .ensures (c .before .before .before .before .before .before .before .before .before .args .t1) refl) (c .before .before .before .before .if2 .left) (c .before .before .begin-refusal .ensures (c .before .before .before .before .before .before .before .before .before .args .t1) refl refl)) (c .before .if3 .taken))
+returns-3 c =
+    let a = c .before .before .before .before .before .before .before .before .before .args in
+    refused-as _ (c .refuse3 .ensures) (later-refuses (begin (a .thread) (a .op)) _ _ (c .before .before .before .before .before .before .before .table-refusal .ensures) (c .before .before .before .before .before .before .if1 .left) _ (begin-after-place (a .thread) (a .op) (state (a .t1) (now (a .store))) _ _ (c .before .before .before .before .before .place-refusal .ensures (a .t1) refl) (c .before .before .before .before .if2 .left) (c .before .before .begin-refusal .ensures (a .t1) refl refl)) (c .before .if3 .taken))
 
 begin-requires : tie.Need-begin-requires
 unfolding at threadRows operationRows beginRows
-begin-requires c κs = begin-accepted (c .before .before .before .before .before .before .before .before .before .args .thread) (c .before .before .before .before .before .before .before .before .before .args .op) _ (table-formed _ _ (c .before .before .before .before .before .before .before .table-refusal .ensures) (c .before .before .before .before .before .before .if1 .left)) (place-below (c .before .before .before .before .before .before .before .before .before .args .t1) _ _ _ (c .before .before .before .before .before .place-refusal .ensures (c .before .before .before .before .before .before .before .before .before .args .t1) refl) (c .before .before .before .before .if2 .left)) (place-store (c .before .before .before .before .before .before .before .before .before .args .t1) _ _ _ (c .before .before .before .before .before .place-refusal .ensures (c .before .before .before .before .before .before .before .before .before .args .t1) refl) (c .before .before .before .before .if2 .left)) (sym (c .before .before .begin-refusal .ensures (c .before .before .before .before .before .before .before .before .before .args .t1) refl refl) ∙ c .before .if3 .left)
+begin-requires c κs =
+    let a = c .before .before .before .before .before .before .before .before .before .args in
+    let place-refusal-result = c .before .before .before .before .before .place-refusal .ensures in
+    let test2 = c .before .before .before .before .if2 .left in
+    begin-accepted (a .thread) (a .op) _ (table-formed _ _ (c .before .before .before .before .before .before .before .table-refusal .ensures) (c .before .before .before .before .before .before .if1 .left)) (place-below (a .t1) _ _ _ (place-refusal-result (a .t1) refl) test2) (place-store (a .t1) _ _ _ (place-refusal-result (a .t1) refl) test2) (sym (c .before .before .begin-refusal .ensures (a .t1) refl refl) ∙ c .before .if3 .left)
 
 same-length : tie.Need-same-length
 same-length c = search needs

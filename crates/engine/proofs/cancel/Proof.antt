@@ -18,13 +18,17 @@ refuse-requires : tie.Need-refuse-requires
 refuse-requires c κs = search needs
 
 returns : tie.Need-returns
-returns c = λ store. refused-as _ (c .refuse .ensures) (table-refuses (cancel (c .before .before .before .args .thread)) (state (c .before .before .before .args .t1) store) _ (c .before .before .table-refusal .ensures) (c .before .if1 .taken))
+returns c =
+    let a = c .before .before .before .args in
+    λ store. refused-as _ (c .refuse .ensures) (table-refuses (cancel (a .thread)) (state (a .t1) store) _ (c .before .before .table-refusal .ensures) (c .before .if1 .taken))
 
 refuse-requires-2 : tie.Need-refuse-requires-2
 refuse-requires-2 c κs = search needs
 
 returns-2 : tie.Need-returns-2
-returns-2 c = λ store. refused-as _ (c .refuse2 .ensures) (later-refuses (cancel (c .before .before .before .before .args .thread)) (state (c .before .before .before .before .args .t1) store) _ (c .before .before .before .table-refusal .ensures) (c .before .before .if1 .left) 3 (cancel-no-thread (c .before .before .before .before .args .thread) (state (c .before .before .before .before .args .t1) store) (c .before .if2 .taken)) (λ e. omega arith))
+returns-2 c =
+    let a = c .before .before .before .before .args in
+    λ store. refused-as _ (c .refuse2 .ensures) (later-refuses (cancel (a .thread)) (state (a .t1) store) _ (c .before .before .before .table-refusal .ensures) (c .before .before .if1 .left) 3 (cancel-no-thread (a .thread) (state (a .t1) store) (c .before .if2 .taken)) (λ e. omega arith))
 
 mul-own : tie.Need-mul-own
 mul-own c = search needs
@@ -37,11 +41,15 @@ refuse-requires-3 c κs = search needs
 
 returns-3 : tie.Need-returns-3
 unfolding at
-returns-3 c = λ store. refused-as _ (c .refuse3 .ensures) (later-refuses (cancel (c .before .before .before .before .before .before .before .args .thread)) (state (c .before .before .before .before .before .before .before .args .t1) store) _ (c .before .before .before .before .before .before .table-refusal .ensures) (c .before .before .before .before .before .if1 .left) 4 (cancel-lock-owned (c .before .before .before .before .before .before .before .args .thread) (state (c .before .before .before .before .before .before .before .args .t1) store) (c .before .before .before .before .if2 .left) (c .before .if3 .taken)) (λ e. omega arith))
+returns-3 c =
+    let a = c .before .before .before .before .before .before .before .args in
+    λ store. refused-as _ (c .refuse3 .ensures) (later-refuses (cancel (a .thread)) (state (a .t1) store) _ (c .before .before .before .before .before .before .table-refusal .ensures) (c .before .before .before .before .before .if1 .left) 4 (cancel-lock-owned (a .thread) (state (a .t1) store) (c .before .before .before .before .if2 .left) (c .before .if3 .taken)) (λ e. omega arith))
 
 cancel-requires : tie.Need-cancel-requires
 unfolding at lockFree
-cancel-requires c κs = cancel-accepted (c .before .before .before .before .before .before .args .thread) (state (c .before .before .before .before .before .before .args .t1) []) (table-formed _ _ (c .before .before .before .before .before .table-refusal .ensures) (c .before .before .before .before .if1 .left)) (c .before .before .before .if2 .left) (eq-eqb _ _ (c .if3 .left))
+cancel-requires c κs =
+    let a = c .before .before .before .before .before .before .args in
+    cancel-accepted (a .thread) (state (a .t1) []) (table-formed _ _ (c .before .before .before .before .before .table-refusal .ensures) (c .before .before .before .before .if1 .left)) (c .before .before .before .if2 .left) (eq-eqb _ _ (c .if3 .left))
 
 returns-4 : tie.Need-returns-4
 returns-4 c = search needs

@@ -18,13 +18,17 @@ refuse-requires : tie.Need-refuse-requires
 refuse-requires c κs = search needs
 
 returns : tie.Need-returns
-returns c = subst (λ (r : Returned). MakePromise (c .before .before .before .before .args .n) (r .answer) (r .table)) (sym (c .refuse .ensures ∙ ap {B = Returned} (λ (t : Table). record { answer = Refused (c .before .before .before .size-refusal .result); table = t }) (c .before .new-table .ensures))) (make-refused (c .before .before .before .before .args .n) _ (c .before .before .before .size-refusal .ensures) (c .before .before .if1 .taken))
+returns c =
+    let a = c .before .before .before .before .args in
+    subst (λ (r : Returned). MakePromise (a .n) (r .answer) (r .table)) (sym (c .refuse .ensures ∙ ap {B = Returned} (λ (t : Table). record { answer = Refused (c .before .before .before .size-refusal .result); table = t }) (c .before .new-table .ensures))) (make-refused (a .n) _ (c .before .before .before .size-refusal .ensures) (c .before .before .if1 .taken))
 
 new-table-requires-2 : tie.Need-new-table-requires-2
 new-table-requires-2 c κs = search needs
 
 returns-2 : tie.Need-returns-2
-returns-2 c = subst (λ (t : Table). MakePromise (c .before .before .before .args .n) Accepted t) (sym (c .new-table2 .ensures)) (make-accepted (c .before .before .before .args .n) _ (c .before .before .size-refusal .ensures) (c .before .if1 .left))
+returns-2 c =
+    let a = c .before .before .before .args in
+    subst (λ (t : Table). MakePromise (a .n) Accepted t) (sym (c .new-table2 .ensures)) (make-accepted (a .n) _ (c .before .before .size-refusal .ensures) (c .before .if1 .left))
 
 pub make-spec : {M : Type 1} → statement M
 make-spec =

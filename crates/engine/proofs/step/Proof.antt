@@ -23,10 +23,16 @@ refuse-requires-2 : tie.Need-refuse-requires-2
 refuse-requires-2 c κs = search needs
 
 returns-2 : tie.Need-returns-2
-returns-2 c = refused-as _ (c .refuse2 .ensures) (later-refuses (step (c .before .before .before .before .before .before .args .thread)) _ _ (c .before .before .before .before .table-refusal .ensures) (c .before .before .before .if1 .left) _ (c .before .before .place-refusal .ensures (c .before .before .before .before .before .before .args .table) refl) (c .before .if2 .taken))
+returns-2 c =
+    let a = c .before .before .before .before .before .before .args in
+    refused-as _ (c .refuse2 .ensures) (later-refuses (step (a .thread)) _ _ (c .before .before .before .before .table-refusal .ensures) (c .before .before .before .if1 .left) _ (c .before .before .place-refusal .ensures (a .table) refl) (c .before .if2 .taken))
 
 step-requires : tie.Need-step-requires
-step-requires c κs = step-accepted (c .before .before .before .before .before .before .args .thread) _ (table-formed _ _ (c .before .before .before .before .table-refusal .ensures) (c .before .before .before .if1 .left)) (place-below (c .before .before .before .before .before .before .args .table) _ _ _ (c .before .before .place-refusal .ensures (c .before .before .before .before .before .before .args .table) refl) (c .before .if2 .left)) (place-store (c .before .before .before .before .before .before .args .table) _ _ _ (c .before .before .place-refusal .ensures (c .before .before .before .before .before .before .args .table) refl) (c .before .if2 .left))
+step-requires c κs =
+    let a = c .before .before .before .before .before .before .args in
+    let place-refusal-result = c .before .before .place-refusal .ensures in
+    let test2 = c .before .if2 .left in
+    step-accepted (a .thread) _ (table-formed _ _ (c .before .before .before .before .table-refusal .ensures) (c .before .before .before .if1 .left)) (place-below (a .table) _ _ _ (place-refusal-result (a .table) refl) test2) (place-store (a .table) _ _ _ (place-refusal-result (a .table) refl) test2)
 
 same-length : tie.Need-same-length
 same-length c = search needs

@@ -12,23 +12,31 @@ table-refusal-requires : tie.Need-table-refusal-requires
 table-refusal-requires c κs = search needs
 
 returns : tie.Need-returns
-returns c = outcome-refused _ (c .before .before .before .args .thread) _ (table-number (step (c .before .before .before .args .thread)) _ _ (c .before .table-refusal .ensures) (c .if1 .taken)) (c .if1 .taken)
+returns c =
+    let a = c .before .before .before .args in
+    outcome-refused _ (a .thread) _ (table-number (step (a .thread)) _ _ (c .before .table-refusal .ensures) (c .if1 .taken)) (c .if1 .taken)
 
 place-refusal-requires : tie.Need-place-refusal-requires
 place-refusal-requires c κs = search needs
 
 returns-2 : tie.Need-returns-2
-returns-2 c = outcome-refused _ (c .before .before .before .before .before .args .thread) _ (later-number (step (c .before .before .before .before .before .args .thread)) _ _ (c .before .before .before .table-refusal .ensures) (c .before .before .if1 .left) _ (c .before .place-refusal .ensures (c .before .before .before .before .before .args .t1) refl)) (c .if2 .taken)
+returns-2 c =
+    let a = c .before .before .before .before .before .args in
+    outcome-refused _ (a .thread) _ (later-number (step (a .thread)) _ _ (c .before .before .before .table-refusal .ensures) (c .before .before .if1 .left) _ (c .before .place-refusal .ensures (a .t1) refl)) (c .if2 .taken)
 
 mul-own : tie.Need-mul-own
 mul-own c = search needs
 
 element-copy-out-own : tie.Need-element-copy-out-own
-element-copy-out-own c = omega (arith, table-few _ _ (c .before .before .before .table-refusal .ensures) (c .before .before .if1 .left), place-below (c .before .before .before .before .before .args .t1) _ _ _ (c .before .place-refusal .ensures (c .before .before .before .before .before .args .t1) refl) (c .if2 .left))
+element-copy-out-own c =
+    let a = c .before .before .before .before .before .args in
+    omega (arith, table-few _ _ (c .before .before .before .table-refusal .ensures) (c .before .before .if1 .left), place-below (a .t1) _ _ _ (c .before .place-refusal .ensures (a .t1) refl) (c .if2 .left))
 
 returns-3 : tie.Need-returns-3
 unfolding at
-returns-3 c = outcome-shown _ (c .before .before .before .before .before .before .before .args .thread) _ (later-number (step (c .before .before .before .before .before .before .before .args .thread)) _ _ (c .before .before .before .before .before .table-refusal .ensures) (c .before .before .before .before .if1 .left) _ (c .before .before .before .place-refusal .ensures (c .before .before .before .before .before .before .before .args .t1) refl)) (c .before .before .if2 .left)
+returns-3 c =
+    let a = c .before .before .before .before .before .before .before .args in
+    outcome-shown _ (a .thread) _ (later-number (step (a .thread)) _ _ (c .before .before .before .before .before .table-refusal .ensures) (c .before .before .before .before .if1 .left) _ (c .before .before .before .place-refusal .ensures (a .t1) refl)) (c .before .before .if2 .left)
 
 pub outcome-spec : {M : Type 1} → statement M
 outcome-spec =

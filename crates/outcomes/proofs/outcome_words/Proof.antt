@@ -21,7 +21,10 @@ part-result-end : tie.Need-part-result-end
 part-result-end c = search needs
 
 returns : tie.Need-returns
-returns c = words-refused _ (c .before .before .before .before .args .thread) _ (table-number (step (c .before .before .before .before .args .thread)) _ _ (c .before .before .table-refusal .ensures) (c .before .if1 .taken)) (c .before .if1 .taken)
+returns c =
+    let a = c .before .before .before .before .args in
+    let test1 = c .before .if1 .taken in
+    words-refused _ (a .thread) _ (table-number (step (a .thread)) _ _ (c .before .before .table-refusal .ensures) test1) test1
 
 place-refusal-requires : tie.Need-place-refusal-requires
 place-refusal-requires c κs = search needs
@@ -36,21 +39,31 @@ part-result-end-2 : tie.Need-part-result-end-2
 part-result-end-2 c = search needs
 
 returns-2 : tie.Need-returns-2
-returns-2 c = words-refused _ (c .before .before .before .before .before .before .args .thread) _ (later-number (step (c .before .before .before .before .before .before .args .thread)) _ _ (c .before .before .before .before .table-refusal .ensures) (c .before .before .before .if1 .left) _ (c .before .before .place-refusal .ensures (c .before .before .before .before .before .before .args .t1) refl)) (c .before .if2 .taken)
+returns-2 c =
+    let a = c .before .before .before .before .before .before .args in
+    words-refused _ (a .thread) _ (later-number (step (a .thread)) _ _ (c .before .before .before .before .table-refusal .ensures) (c .before .before .before .if1 .left) _ (c .before .before .place-refusal .ensures (a .t1) refl)) (c .before .if2 .taken)
 
 mul-own : tie.Need-mul-own
 mul-own c = search needs
 
 element-copy-out-own : tie.Need-element-copy-out-own
-element-copy-out-own c = omega (arith, table-few _ _ (c .before .before .before .table-refusal .ensures) (c .before .before .if1 .left), place-below (c .before .before .before .before .before .args .t1) _ _ _ (c .before .place-refusal .ensures (c .before .before .before .before .before .args .t1) refl) (c .if2 .left))
+element-copy-out-own c =
+    let a = c .before .before .before .before .before .args in
+    omega (arith, table-few _ _ (c .before .before .before .table-refusal .ensures) (c .before .before .if1 .left), place-below (a .t1) _ _ _ (c .before .place-refusal .ensures (a .t1) refl) (c .if2 .left))
 
 first-words-requires : tie.Need-first-words-requires
 unfolding at
-first-words-requires c κs = (omega (arith, place-below (c .before .before .before .before .before .before .before .args .t1) _ _ _ (c .before .before .before .place-refusal .ensures (c .before .before .before .before .before .before .before .args .t1) refl) (c .before .before .if2 .left), place-store (c .before .before .before .before .before .before .before .args .t1) _ _ _ (c .before .before .before .place-refusal .ensures (c .before .before .before .before .before .before .before .args .t1) refl) (c .before .before .if2 .left)), count-fits (c .before .before .before .before .before .before .before .args .t1) (table-formed _ _ (c .before .before .before .before .before .table-refusal .ensures) (c .before .before .before .before .if1 .left)) _ (place-below (c .before .before .before .before .before .before .before .args .t1) _ _ _ (c .before .before .before .place-refusal .ensures (c .before .before .before .before .before .before .before .args .t1) refl) (c .before .before .if2 .left)))
+first-words-requires c κs =
+    let a = c .before .before .before .before .before .before .before .args in
+    let place-refusal-result = c .before .before .before .place-refusal .ensures in
+    let test2 = c .before .before .if2 .left in
+    (omega (arith, place-below (a .t1) _ _ _ (place-refusal-result (a .t1) refl) test2, place-store (a .t1) _ _ _ (place-refusal-result (a .t1) refl) test2), count-fits (a .t1) (table-formed _ _ (c .before .before .before .before .before .table-refusal .ensures) (c .before .before .before .before .if1 .left)) _ (place-below (a .t1) _ _ _ (place-refusal-result (a .t1) refl) test2))
 
 returns-3 : tie.Need-returns-3
 unfolding at
-returns-3 c = c .first-words .ensures ∙ words-shown _ (c .before .before .before .before .before .before .before .before .args .thread) _ (later-number (step (c .before .before .before .before .before .before .before .before .args .thread)) _ _ (c .before .before .before .before .before .before .table-refusal .ensures) (c .before .before .before .before .before .if1 .left) _ (c .before .before .before .before .place-refusal .ensures (c .before .before .before .before .before .before .before .before .args .t1) refl)) (c .before .before .before .if2 .left)
+returns-3 c =
+    let a = c .before .before .before .before .before .before .before .before .args in
+    c .first-words .ensures ∙ words-shown _ (a .thread) _ (later-number (step (a .thread)) _ _ (c .before .before .before .before .before .before .table-refusal .ensures) (c .before .before .before .before .before .if1 .left) _ (c .before .before .before .before .place-refusal .ensures (a .t1) refl)) (c .before .before .before .if2 .left)
 
 pub outcome-words-spec : {M : Type 1} → statement M
 outcome-words-spec =

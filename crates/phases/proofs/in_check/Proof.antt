@@ -8,7 +8,9 @@ abort-send-requires : tie.Need-abort-send-requires
 abort-send-requires c κs = search needs
 
 returns : tie.Need-returns
-returns c = settled _ _ _ _ (check-cancelled (c .before .before .args .x) (c .before .before .args .own) (c .before .before .args .other) (c .before .if1 .taken)) (c .abort-send .ensures)
+returns c =
+    let a = c .before .before .args in
+    settled _ _ _ _ (check-cancelled (a .x) (a .own) (a .other) (c .before .if1 .taken)) (c .abort-send .ensures)
 
 is-ready-requires : tie.Need-is-ready-requires
 is-ready-requires c κs = search needs
@@ -17,19 +19,25 @@ start-copy-requires : tie.Need-start-copy-requires
 start-copy-requires c κs = search needs
 
 returns-2 : tie.Need-returns-2
-returns-2 c = settled _ _ _ _ (check-copies (c .before .before .before .before .args .x) (c .before .before .before .before .args .own) (c .before .before .before .before .args .other) (c .before .before .before .if1 .left) (sym (c .before .before .is-ready .ensures) ∙ c .before .if2 .taken)) (c .start-copy .ensures (c .before .before .before .before .args .x))
+returns-2 c =
+    let a = c .before .before .before .before .args in
+    settled _ _ _ _ (check-copies (a .x) (a .own) (a .other) (c .before .before .before .if1 .left) (sym (c .before .before .is-ready .ensures) ∙ c .before .if2 .taken)) (c .start-copy .ensures (a .x))
 
 abort-send-requires-2 : tie.Need-abort-send-requires-2
 abort-send-requires-2 c κs = search needs
 
 returns-3 : tie.Need-returns-3
-returns-3 c = settled _ _ _ _ (check-late (c .before .before .before .before .before .before .args .x) (c .before .before .before .before .before .before .args .own) (c .before .before .before .before .before .before .args .other) (c .before .before .before .before .before .if1 .left) (sym (c .before .before .before .before .is-ready .ensures) ∙ c .before .before .before .if2 .left) (c .before .if3 .taken)) (c .abort-send2 .ensures)
+returns-3 c =
+    let a = c .before .before .before .before .before .before .args in
+    settled _ _ _ _ (check-late (a .x) (a .own) (a .other) (c .before .before .before .before .before .if1 .left) (sym (c .before .before .before .before .is-ready .ensures) ∙ c .before .before .before .if2 .left) (c .before .if3 .taken)) (c .abort-send2 .ensures)
 
 go-to-release-requires : tie.Need-go-to-release-requires
 go-to-release-requires c κs = search needs
 
 returns-4 : tie.Need-returns-4
-returns-4 c = settled _ _ _ _ (check-releases (c .before .before .before .before .before .before .args .x) (c .before .before .before .before .before .before .args .own) (c .before .before .before .before .before .before .args .other) (c .before .before .before .before .before .if1 .left) (sym (c .before .before .before .before .is-ready .ensures) ∙ c .before .before .before .if2 .left) (c .before .if3 .left)) (c .go-to-release .ensures (c .before .before .before .before .before .before .args .x))
+returns-4 c =
+    let a = c .before .before .before .before .before .before .args in
+    settled _ _ _ _ (check-releases (a .x) (a .own) (a .other) (c .before .before .before .before .before .if1 .left) (sym (c .before .before .before .before .is-ready .ensures) ∙ c .before .before .before .if2 .left) (c .before .if3 .left)) (c .go-to-release .ensures (a .x))
 
 pub in-check-spec : {M : Type 1} → statement M
 in-check-spec =

@@ -15,7 +15,11 @@ same-length c = search needs
 
 returns : tie.Need-returns
 unfolding wordAdded
-returns c = (settled _ _ _ _ (copy-word (c .before .before .before .before .before .before .before .before .before .before .args .x) (c .before .before .before .before .before .before .before .before .before .before .args .own) (c .before .before .before .before .before .before .before .before .before .before .args .other) (c .before .before .before .before .if1 .taken)) (c .before .before .copy-word .ensures .0 (c .before .before .before .before .before .before .before .before .before .before .args .x)), c .before .before .copy-word .ensures .1 ∙ sym (cond-true _ _ _ (lt-ltb _ _ (c .before .before .before .before .if1 .taken))))
+returns c =
+    let a = c .before .before .before .before .before .before .before .before .before .before .args in
+    let test1 = c .before .before .before .before .if1 .taken in
+    let copy-word-result = c .before .before .copy-word .ensures in
+    (settled _ _ _ _ (copy-word (a .x) (a .own) (a .other) test1) (copy-word-result .0 (a .x)), copy-word-result .1 ∙ sym (cond-true _ _ _ (lt-ltb _ _ test1)))
 
 has-receive-requires : tie.Need-has-receive-requires
 has-receive-requires c κs = search needs
@@ -25,14 +29,20 @@ finish-call-requires c κs = search needs
 
 returns-2 : tie.Need-returns-2
 unfolding wordAdded
-returns-2 c = (settled _ _ _ _ (copy-calls (c .before .before .before .before .before .before .before .before .before .args .x) (c .before .before .before .before .before .before .before .before .before .args .own) (c .before .before .before .before .before .before .before .before .before .args .other) (c .before .before .before .if1 .left) (sym (c .before .before .has-receive .ensures) ∙ c .before .if2 .taken)) (c .finish-call .ensures), sym (cond-false _ _ _ (le-ltb _ _ (c .before .before .before .if1 .left))))
+returns-2 c =
+    let a = c .before .before .before .before .before .before .before .before .before .args in
+    let test1 = c .before .before .before .if1 .left in
+    (settled _ _ _ _ (copy-calls (a .x) (a .own) (a .other) test1 (sym (c .before .before .has-receive .ensures) ∙ c .before .if2 .taken)) (c .finish-call .ensures), sym (cond-false _ _ _ (le-ltb _ _ test1)))
 
 finish-send-requires : tie.Need-finish-send-requires
 finish-send-requires c κs = search needs
 
 returns-3 : tie.Need-returns-3
 unfolding wordAdded
-returns-3 c = (settled _ _ _ _ (copy-sends (c .before .before .before .before .before .before .before .before .before .args .x) (c .before .before .before .before .before .before .before .before .before .args .own) (c .before .before .before .before .before .before .before .before .before .args .other) (c .before .before .before .if1 .left) (sym (c .before .before .has-receive .ensures) ∙ c .before .if2 .left)) (c .finish-send .ensures), sym (cond-false _ _ _ (le-ltb _ _ (c .before .before .before .if1 .left))))
+returns-3 c =
+    let a = c .before .before .before .before .before .before .before .before .before .args in
+    let test1 = c .before .before .before .if1 .left in
+    (settled _ _ _ _ (copy-sends (a .x) (a .own) (a .other) test1 (sym (c .before .before .has-receive .ensures) ∙ c .before .if2 .left)) (c .finish-send .ensures), sym (cond-false _ _ _ (le-ltb _ _ test1)))
 
 pub in-copy-spec : {M : Type 1} → statement M
 in-copy-spec =

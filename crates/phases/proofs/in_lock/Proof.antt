@@ -9,13 +9,17 @@ take-lock-requires : tie.Need-take-lock-requires
 take-lock-requires c κs = search needs
 
 returns : tie.Need-returns
-returns c = settled _ _ _ _ (lock-takes (c .before .before .before .args .x) (c .before .before .before .args .own) (c .before .before .before .args .other) (c .before .if1 .taken)) (c .take-lock .ensures)
+returns c =
+    let a = c .before .before .before .args in
+    settled _ _ _ _ (lock-takes (a .x) (a .own) (a .other) (c .before .if1 .taken)) (c .take-lock .ensures)
 
 stay-with-requires : tie.Need-stay-with-requires
 stay-with-requires c κs = search needs
 
 returns-2 : tie.Need-returns-2
-returns-2 c = settled _ _ _ _ (lock-wants (c .before .before .before .args .x) (c .before .before .before .args .own) (c .before .before .before .args .other) (c .before .if1 .left)) (c .stay-with .ensures (c .before .before .before .args .x) wants refl)
+returns-2 c =
+    let a = c .before .before .before .args in
+    settled _ _ _ _ (lock-wants (a .x) (a .own) (a .other) (c .before .if1 .left)) (c .stay-with .ensures (a .x) wants refl)
 
 pub in-lock-spec : {M : Type 1} → statement M
 in-lock-spec = tie.close (tie.spec take-lock-requires returns stay-with-requires returns-2)

@@ -11,13 +11,17 @@ go-idle-requires : tie.Need-go-idle-requires
 go-idle-requires c κs = search needs
 
 returns : tie.Need-returns
-returns c = settled _ _ _ _ (look-ended (c .before .before .before .before .args .x) (c .before .before .before .before .args .own) (c .before .before .before .before .args .other) (not-true (c .before .before .before .before .args .own .flags .ipc) (c .before .if1 .taken))) (c .go-idle .ensures (c .before .before .before .before .args .x))
+returns c =
+    let a = c .before .before .before .before .args in
+    settled _ _ _ _ (look-ended (a .x) (a .own) (a .other) (not-true (a .own .flags .ipc) (c .before .if1 .taken))) (c .go-idle .ensures (a .x))
 
 abort-receive-requires : tie.Need-abort-receive-requires
 abort-receive-requires c κs = search needs
 
 returns-2 : tie.Need-returns-2
-returns-2 c = settled _ _ _ _ (look-cancelled (c .before .before .before .before .before .args .x) (c .before .before .before .before .before .args .own) (c .before .before .before .before .before .args .other) (not-false (c .before .before .before .before .before .args .own .flags .ipc) (c .before .before .if1 .left)) (c .before .if2 .taken)) (c .abort-receive .ensures (c .before .before .before .before .before .args .x))
+returns-2 c =
+    let a = c .before .before .before .before .before .args in
+    settled _ _ _ _ (look-cancelled (a .x) (a .own) (a .other) (not-false (a .own .flags .ipc) (c .before .before .if1 .left)) (c .before .if2 .taken)) (c .abort-receive .ensures (a .x))
 
 look-alone-requires : tie.Need-look-alone-requires
 unfolding foundAs

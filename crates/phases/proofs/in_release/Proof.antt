@@ -9,19 +9,25 @@ free-target-requires : tie.Need-free-target-requires
 free-target-requires c κs = search needs
 
 returns : tie.Need-returns
-returns c = settled _ _ _ _ (release-sleeps (c .before .before .before .args .x) (c .before .before .before .args .own) (c .before .before .before .args .other) (c .before .if1 .taken)) (c .free-target .ensures (c .before .before .before .args .x) sleep refl)
+returns c =
+    let a = c .before .before .before .args in
+    settled _ _ _ _ (release-sleeps (a .x) (a .own) (a .other) (c .before .if1 .taken)) (c .free-target .ensures (a .x) sleep refl)
 
 free-target-requires-2 : tie.Need-free-target-requires-2
 free-target-requires-2 c κs = search needs
 
 returns-2 : tie.Need-returns-2
-returns-2 c = settled _ _ _ _ (release-looks (c .before .before .before .before .args .x) (c .before .before .before .before .args .own) (c .before .before .before .before .args .other) (c .before .before .if1 .left) (c .before .if2 .taken)) (c .free-target2 .ensures (c .before .before .before .before .args .x) look refl)
+returns-2 c =
+    let a = c .before .before .before .before .args in
+    settled _ _ _ _ (release-looks (a .x) (a .own) (a .other) (c .before .before .if1 .left) (c .before .if2 .taken)) (c .free-target2 .ensures (a .x) look refl)
 
 free-target-requires-3 : tie.Need-free-target-requires-3
 free-target-requires-3 c κs = search needs
 
 returns-3 : tie.Need-returns-3
-returns-3 c = settled _ _ _ _ (release-ends (c .before .before .before .before .args .x) (c .before .before .before .before .args .own) (c .before .before .before .before .args .other) (c .before .before .if1 .left) (c .before .if2 .left)) (c .free-target3 .ensures (c .before .before .before .before .args .x) idle refl)
+returns-3 c =
+    let a = c .before .before .before .before .args in
+    settled _ _ _ _ (release-ends (a .x) (a .own) (a .other) (c .before .before .if1 .left) (c .before .if2 .left)) (c .free-target3 .ensures (a .x) idle refl)
 
 pub in-release-spec : {M : Type 1} → statement M
 in-release-spec =

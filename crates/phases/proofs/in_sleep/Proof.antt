@@ -10,25 +10,33 @@ try-again-requires : tie.Need-try-again-requires
 try-again-requires c κs = search needs
 
 returns : tie.Need-returns
-returns c = settled _ _ _ _ (sleep-woken (c .before .before .before .before .args .x) (c .before .before .before .before .args .own) (c .before .before .before .before .args .other) (not-true (c .before .before .before .before .args .own .flags .poll) (c .before .if1 .taken))) (c .try-again .ensures (c .before .before .before .before .args .x))
+returns c =
+    let a = c .before .before .before .before .args in
+    settled _ _ _ _ (sleep-woken (a .x) (a .own) (a .other) (not-true (a .own .flags .poll) (c .before .if1 .taken))) (c .try-again .ensures (a .x))
 
 try-again-requires-2 : tie.Need-try-again-requires-2
 try-again-requires-2 c κs = search needs
 
 returns-2 : tie.Need-returns-2
-returns-2 c = settled _ _ _ _ (sleep-marked (c .before .before .before .before .before .args .x) (c .before .before .before .before .before .args .own) (c .before .before .before .before .before .args .other) (not-false (c .before .before .before .before .before .args .own .flags .poll) (c .before .before .if1 .left)) (c .before .if2 .taken)) (c .try-again2 .ensures (c .before .before .before .before .before .args .x))
+returns-2 c =
+    let a = c .before .before .before .before .before .args in
+    settled _ _ _ _ (sleep-marked (a .x) (a .own) (a .other) (not-false (a .own .flags .poll) (c .before .before .if1 .left)) (c .before .if2 .taken)) (c .try-again2 .ensures (a .x))
 
 try-again-requires-3 : tie.Need-try-again-requires-3
 try-again-requires-3 c κs = search needs
 
 returns-3 : tie.Need-returns-3
-returns-3 c = settled _ _ _ _ (sleep-late (c .before .before .before .before .before .before .before .args .x) (c .before .before .before .before .before .before .before .args .own) (c .before .before .before .before .before .before .before .args .other) (not-false (c .before .before .before .before .before .before .before .args .own .flags .poll) (c .before .before .before .before .if1 .left)) (c .before .before .before .if2 .left) (c .before .if3 .taken)) (c .try-again3 .ensures (c .before .before .before .before .before .before .before .args .x))
+returns-3 c =
+    let a = c .before .before .before .before .before .before .before .args in
+    settled _ _ _ _ (sleep-late (a .x) (a .own) (a .other) (not-false (a .own .flags .poll) (c .before .before .before .before .if1 .left)) (c .before .before .before .if2 .left) (c .before .if3 .taken)) (c .try-again3 .ensures (a .x))
 
 stay-with-requires : tie.Need-stay-with-requires
 stay-with-requires c κs = search needs
 
 returns-4 : tie.Need-returns-4
-returns-4 c = settled _ _ _ _ (sleep-stays (c .before .before .before .before .before .before .before .args .x) (c .before .before .before .before .before .before .before .args .own) (c .before .before .before .before .before .before .before .args .other) (not-false (c .before .before .before .before .before .before .before .args .own .flags .poll) (c .before .before .before .before .if1 .left)) (c .before .before .before .if2 .left) (c .before .if3 .left)) (c .stay-with .ensures (c .before .before .before .before .before .before .before .args .x) asleep refl)
+returns-4 c =
+    let a = c .before .before .before .before .before .before .before .args in
+    settled _ _ _ _ (sleep-stays (a .x) (a .own) (a .other) (not-false (a .own .flags .poll) (c .before .before .before .before .if1 .left)) (c .before .before .before .if2 .left) (c .before .if3 .left)) (c .stay-with .ensures (a .x) asleep refl)
 
 pub in-sleep-spec : {M : Type 1} → statement M
 in-sleep-spec =

@@ -10,19 +10,28 @@ stay-with-requires : tie.Need-stay-with-requires
 stay-with-requires c κs = search needs
 
 returns : tie.Need-returns
-returns c = settled _ _ _ _ (look-found-awake (c .before .before .before .args .x) (c .before .before .before .args .own) (c .before .before .before .args .other) (c .before .before .before .pre .runs) (c .before .before .before .pre .unmarked) (c .before .before .before .args .s) (c .before .before .before .pre .found) (not-true (c .before .before .before .args .other .flags .poll) (c .before .if1 .taken))) (c .stay-with .ensures (c .before .before .before .args .x) asleep refl)
+returns c =
+    let a = c .before .before .before .args in
+    let asked = c .before .before .before .pre in
+    settled _ _ _ _ (look-found-awake (a .x) (a .own) (a .other) (asked .runs) (asked .unmarked) (a .s) (asked .found) (not-true (a .other .flags .poll) (c .before .if1 .taken))) (c .stay-with .ensures (a .x) asleep refl)
 
 stay-with-requires-2 : tie.Need-stay-with-requires-2
 stay-with-requires-2 c κs = search needs
 
 returns-2 : tie.Need-returns-2
-returns-2 c = settled _ _ _ _ (look-found-wants (c .before .before .before .before .before .args .x) (c .before .before .before .before .before .args .own) (c .before .before .before .before .before .args .other) (c .before .before .before .before .before .pre .runs) (c .before .before .before .before .before .pre .unmarked) (c .before .before .before .before .before .args .s) (c .before .before .before .before .before .pre .found) (not-false (c .before .before .before .before .before .args .other .flags .poll) (c .before .before .before .if1 .left)) (c .before .if2 .taken)) (c .stay-with2 .ensures (c .before .before .before .before .before .args .x) wants refl)
+returns-2 c =
+    let a = c .before .before .before .before .before .args in
+    let asked = c .before .before .before .before .before .pre in
+    settled _ _ _ _ (look-found-wants (a .x) (a .own) (a .other) (asked .runs) (asked .unmarked) (a .s) (asked .found) (not-false (a .other .flags .poll) (c .before .before .before .if1 .left)) (c .before .if2 .taken)) (c .stay-with2 .ensures (a .x) wants refl)
 
 take-sender-requires : tie.Need-take-sender-requires
 take-sender-requires c κs = search needs
 
 returns-3 : tie.Need-returns-3
-returns-3 c = settled _ _ _ _ (look-takes (c .before .before .before .before .before .args .x) (c .before .before .before .before .before .args .own) (c .before .before .before .before .before .args .other) (c .before .before .before .before .before .pre .runs) (c .before .before .before .before .before .pre .unmarked) (c .before .before .before .before .before .args .s) (c .before .before .before .before .before .pre .found) (not-false (c .before .before .before .before .before .args .other .flags .poll) (c .before .before .before .if1 .left)) (c .before .if2 .left)) (c .take-sender .ensures)
+returns-3 c =
+    let a = c .before .before .before .before .before .args in
+    let asked = c .before .before .before .before .before .pre in
+    settled _ _ _ _ (look-takes (a .x) (a .own) (a .other) (asked .runs) (asked .unmarked) (a .s) (asked .found) (not-false (a .other .flags .poll) (c .before .before .before .if1 .left)) (c .before .if2 .left)) (c .take-sender .ensures)
 
 pub look-at-sender-spec : {M : Type 1} → statement M
 look-at-sender-spec =

@@ -17,7 +17,10 @@ in-check-requires : tie.Need-in-check-requires
 in-check-requires c κs = c .before .before .pre .0 .waits (in-number check _ (c .match .keys3))
 
 in-copy-requires : tie.Need-in-copy-requires
-in-copy-requires c κs = (c .before .before .before .pre .0 .copies (in-number copy _ (c .before .match .keys4)), (c .before .before .before .pre .0 .counts (in-number copy _ (c .before .match .keys4)), search needs))
+in-copy-requires c κs =
+    let asked = c .before .before .before .pre in
+    let match-result = c .before .match in
+    (asked .0 .copies (in-number copy _ (match-result .keys4)), (asked .0 .counts (in-number copy _ (match-result .keys4)), search needs))
 
 in-release-requires : tie.Need-in-release-requires
 in-release-requires c κs = search needs
@@ -50,7 +53,10 @@ same-length : tie.Need-same-length
 same-length c = search needs
 
 returns-4 : tie.Need-returns-4
-returns-4 c = (settled-in copy _ _ _ _ (c .before .before .before .before .match .keys4) (c .before .before .in-copy .ensures .0), c .before .before .in-copy .ensures .1 ∙ words-copied (c .before .before .before .before .before .before .args .own) _ (c .before .before .before .before .match .keys4))
+returns-4 c =
+    let match-result = c .before .before .before .before .match in
+    let in-copy-result = c .before .before .in-copy .ensures in
+    (settled-in copy _ _ _ _ (match-result .keys4) (in-copy-result .0), in-copy-result .1 ∙ words-copied (c .before .before .before .before .before .before .args .own) _ (match-result .keys4))
 
 returns-5 : tie.Need-returns-5
 returns-5 c = (settled-in release _ _ _ _ (c .before .match .keys5) (c .in-release .ensures), words-kept (c .before .before .before .args .own) _ (λ e. omega arith))

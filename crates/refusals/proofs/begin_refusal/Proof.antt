@@ -18,7 +18,9 @@ operation-refusal-requires c κs = search needs
 
 returns-2 : tie.Need-returns-2
 unfolding beginRows threadRows lockOwned notIdle
-returns-2 c = λ t e is. group-passes (threadRows t (c .before .before .before .args .x)) _ _ _ refl (c .before .before .thread-refusal .ensures t (c .before .before .before .args .x) is) (c .before .if1 .left) (c .operation-refusal .ensures t e)
+returns-2 c =
+    let a = c .before .before .before .args in
+    λ t e is. group-passes (threadRows t (a .x)) _ _ _ refl (c .before .before .thread-refusal .ensures t (a .x) is) (c .before .if1 .left) (c .operation-refusal .ensures t e)
 
 pub begin-refusal-spec : {M : Type 1} → statement M
 begin-refusal-spec =

@@ -19,29 +19,41 @@ closed-on-requires c κs = search needs
 
 returns-2 : tie.Need-returns-2
 unfolding operationRows neitherPart withItself noPartner tooManyWords badTime
-returns-2 c = λ t e. sym (first-later _ _ (neither-when (c .before .before .before .before .before .before .before .before .args .op) _ _ (c .before .before .before .before .before .before .has-receive .ensures) (c .before .before .before .before .if1 .left)) ∙ first-here _ _ (itself-when (c .before .before .before .before .before .before .before .before .args .op) _ (c .before .before .before .before .before .before .before .before .args .x) _ (c .before .closed-on .ensures) (c .if2 .taken)))
+returns-2 c =
+    let a = c .before .before .before .before .before .before .before .before .args in
+    λ t e. sym (first-later _ _ (neither-when (a .op) _ _ (c .before .before .before .before .before .before .has-receive .ensures) (c .before .before .before .before .if1 .left)) ∙ first-here _ _ (itself-when (a .op) _ (a .x) _ (c .before .closed-on .ensures) (c .if2 .taken)))
 
 closed-beyond-requires : tie.Need-closed-beyond-requires
 closed-beyond-requires c κs = search needs
 
 returns-3 : tie.Need-returns-3
 unfolding operationRows neitherPart withItself noPartner tooManyWords badTime
-returns-3 c = λ t e. sym (first-later _ _ (neither-when (c .before .before .before .before .before .before .before .before .before .before .args .op) _ _ (c .before .before .before .before .before .before .before .before .has-receive .ensures) (c .before .before .before .before .before .before .if1 .left)) ∙ first-later _ _ (itself-when (c .before .before .before .before .before .before .before .before .before .before .args .op) _ (c .before .before .before .before .before .before .before .before .before .before .args .x) _ (c .before .before .before .closed-on .ensures) (c .before .before .if2 .left)) ∙ first-here _ _ (partner-when (c .before .before .before .before .before .before .before .before .before .before .args .op) _ t (c .before .before .before .before .before .before .before .before .before .before .args .n) e _ (c .before .closed-beyond .ensures) (c .if3 .taken)))
+returns-3 c =
+    let a = c .before .before .before .before .before .before .before .before .before .before .args in
+    λ t e. sym (first-later _ _ (neither-when (a .op) _ _ (c .before .before .before .before .before .before .before .before .has-receive .ensures) (c .before .before .before .before .before .before .if1 .left)) ∙ first-later _ _ (itself-when (a .op) _ (a .x) _ (c .before .before .before .closed-on .ensures) (c .before .before .if2 .left)) ∙ first-here _ _ (partner-when (a .op) _ t (a .n) e _ (c .before .closed-beyond .ensures) (c .if3 .taken)))
 
 returns-4 : tie.Need-returns-4
 unfolding operationRows neitherPart withItself noPartner tooManyWords badTime
-returns-4 c = λ t e. sym (first-later _ _ (neither-when (c .before .before .before .before .before .before .before .before .before .before .before .before .before .args .op) _ _ (c .before .before .before .before .before .before .before .before .before .before .before .has-receive .ensures) (c .before .before .before .before .before .before .before .before .before .if1 .left)) ∙ first-later _ _ (itself-when (c .before .before .before .before .before .before .before .before .before .before .before .before .before .args .op) _ (c .before .before .before .before .before .before .before .before .before .before .before .before .before .args .x) _ (c .before .before .before .before .before .before .closed-on .ensures) (c .before .before .before .before .before .if2 .left)) ∙ first-later _ _ (partner-when (c .before .before .before .before .before .before .before .before .before .before .before .before .before .args .op) _ t (c .before .before .before .before .before .before .before .before .before .before .before .before .before .args .n) e _ (c .before .before .before .before .closed-beyond .ensures) (c .before .before .before .if3 .left)) ∙ first-here _ _ (words-when (c .before .before .before .before .before .before .before .before .before .before .before .before .before .args .op) _ (c .if4 .taken)))
+returns-4 c =
+    let a = c .before .before .before .before .before .before .before .before .before .before .before .before .before .args in
+    λ t e. sym (first-later _ _ (neither-when (a .op) _ _ (c .before .before .before .before .before .before .before .before .before .before .before .has-receive .ensures) (c .before .before .before .before .before .before .before .before .before .if1 .left)) ∙ first-later _ _ (itself-when (a .op) _ (a .x) _ (c .before .before .before .before .before .before .closed-on .ensures) (c .before .before .before .before .before .if2 .left)) ∙ first-later _ _ (partner-when (a .op) _ t (a .n) e _ (c .before .before .before .before .closed-beyond .ensures) (c .before .before .before .if3 .left)) ∙ first-here _ _ (words-when (a .op) _ (c .if4 .taken)))
 
 receive-time-requires : tie.Need-receive-time-requires
 receive-time-requires c κs = search needs
 
 returns-5 : tie.Need-returns-5
 unfolding operationRows neitherPart withItself noPartner tooManyWords badTime
-returns-5 c = λ t e. sym (first-later _ _ (neither-when (c .before .before .before .before .before .before .before .before .before .before .before .before .before .before .before .before .before .args .op) _ _ (c .before .before .before .before .before .before .before .before .before .before .before .before .before .before .before .has-receive .ensures) (c .before .before .before .before .before .before .before .before .before .before .before .before .before .if1 .left)) ∙ first-later _ _ (itself-when (c .before .before .before .before .before .before .before .before .before .before .before .before .before .before .before .before .before .args .op) _ (c .before .before .before .before .before .before .before .before .before .before .before .before .before .before .before .before .before .args .x) _ (c .before .before .before .before .before .before .before .before .before .before .closed-on .ensures) (c .before .before .before .before .before .before .before .before .before .if2 .left)) ∙ first-later _ _ (partner-when (c .before .before .before .before .before .before .before .before .before .before .before .before .before .before .before .before .before .args .op) _ t (c .before .before .before .before .before .before .before .before .before .before .before .before .before .before .before .before .before .args .n) e _ (c .before .before .before .before .before .before .before .before .closed-beyond .ensures) (c .before .before .before .before .before .before .before .if3 .left)) ∙ first-later _ _ (words-when (c .before .before .before .before .before .before .before .before .before .before .before .before .before .before .before .before .before .args .op) _ (c .before .before .before .before .if4 .left)) ∙ first-here _ _ (time-when (c .before .before .before .before .before .before .before .before .before .before .before .before .before .before .before .before .before .args .op) _ _ _ (c .before .before .before .before .before .before .before .before .before .before .before .before .before .before .before .has-receive .ensures) (c .before .receive-time .ensures) (c .if5 .taken)))
+returns-5 c =
+    let a = c .before .before .before .before .before .before .before .before .before .before .before .before .before .before .before .before .before .args in
+    let has-receive-result = c .before .before .before .before .before .before .before .before .before .before .before .before .before .before .before .has-receive .ensures in
+    λ t e. sym (first-later _ _ (neither-when (a .op) _ _ has-receive-result (c .before .before .before .before .before .before .before .before .before .before .before .before .before .if1 .left)) ∙ first-later _ _ (itself-when (a .op) _ (a .x) _ (c .before .before .before .before .before .before .before .before .before .before .closed-on .ensures) (c .before .before .before .before .before .before .before .before .before .if2 .left)) ∙ first-later _ _ (partner-when (a .op) _ t (a .n) e _ (c .before .before .before .before .before .before .before .before .closed-beyond .ensures) (c .before .before .before .before .before .before .before .if3 .left)) ∙ first-later _ _ (words-when (a .op) _ (c .before .before .before .before .if4 .left)) ∙ first-here _ _ (time-when (a .op) _ _ _ has-receive-result (c .before .receive-time .ensures) (c .if5 .taken)))
 
 returns-6 : tie.Need-returns-6
 unfolding operationRows neitherPart withItself noPartner tooManyWords badTime
-returns-6 c = λ t e. sym (first-later _ _ (neither-when (c .before .before .before .before .before .before .before .before .before .before .before .before .before .before .before .before .before .args .op) _ _ (c .before .before .before .before .before .before .before .before .before .before .before .before .before .before .before .has-receive .ensures) (c .before .before .before .before .before .before .before .before .before .before .before .before .before .if1 .left)) ∙ first-later _ _ (itself-when (c .before .before .before .before .before .before .before .before .before .before .before .before .before .before .before .before .before .args .op) _ (c .before .before .before .before .before .before .before .before .before .before .before .before .before .before .before .before .before .args .x) _ (c .before .before .before .before .before .before .before .before .before .before .closed-on .ensures) (c .before .before .before .before .before .before .before .before .before .if2 .left)) ∙ first-later _ _ (partner-when (c .before .before .before .before .before .before .before .before .before .before .before .before .before .before .before .before .before .args .op) _ t (c .before .before .before .before .before .before .before .before .before .before .before .before .before .before .before .before .before .args .n) e _ (c .before .before .before .before .before .before .before .before .closed-beyond .ensures) (c .before .before .before .before .before .before .before .if3 .left)) ∙ first-later _ _ (words-when (c .before .before .before .before .before .before .before .before .before .before .before .before .before .before .before .before .before .args .op) _ (c .before .before .before .before .if4 .left)) ∙ first-later _ _ (time-when (c .before .before .before .before .before .before .before .before .before .before .before .before .before .before .before .before .before .args .op) _ _ _ (c .before .before .before .before .before .before .before .before .before .before .before .before .before .before .before .has-receive .ensures) (c .before .receive-time .ensures) (c .if5 .left)) ∙ first-none)
+returns-6 c =
+    let a = c .before .before .before .before .before .before .before .before .before .before .before .before .before .before .before .before .before .args in
+    let has-receive-result = c .before .before .before .before .before .before .before .before .before .before .before .before .before .before .before .has-receive .ensures in
+    λ t e. sym (first-later _ _ (neither-when (a .op) _ _ has-receive-result (c .before .before .before .before .before .before .before .before .before .before .before .before .before .if1 .left)) ∙ first-later _ _ (itself-when (a .op) _ (a .x) _ (c .before .before .before .before .before .before .before .before .before .before .closed-on .ensures) (c .before .before .before .before .before .before .before .before .before .if2 .left)) ∙ first-later _ _ (partner-when (a .op) _ t (a .n) e _ (c .before .before .before .before .before .before .before .before .closed-beyond .ensures) (c .before .before .before .before .before .before .before .if3 .left)) ∙ first-later _ _ (words-when (a .op) _ (c .before .before .before .before .if4 .left)) ∙ first-later _ _ (time-when (a .op) _ _ _ has-receive-result (c .before .receive-time .ensures) (c .if5 .left)) ∙ first-none)
 
 pub operation-refusal-spec : {M : Type 1} → statement M
 operation-refusal-spec =

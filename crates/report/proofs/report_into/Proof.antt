@@ -75,7 +75,8 @@ use Rattle.outcomes.proofs.reported.Met as reported-met
 use Rattle.outcomes.proofs.outcome_in as outcome-in
 use Rattle.outcomes.proofs.outcome_in.Symbol as outcome-in-symbol
 use Rattle.outcomes.proofs.outcome_in.Met as outcome-in-met
-use Rattle.report.proofs.Laws.{filled, filled-none, filled-length, filled-more, fits-records, promised}
+use Rattle.outcomes.proofs.Reports.{filled, filled-none, filled-length, filled-more}
+use Rattle.report.proofs.Laws.{fits-records, outcome-there, promised}
 use Rattle.report.proofs.report_into.Key as key
 use Rattle.report.proofs.report_into as report-into
 use Rattle.report.proofs.report_into.Statement as stated
@@ -203,11 +204,11 @@ module _ {M : Type 1} (𝓤 : URA M) (H : Heap 𝓤) (A : Atoms 𝓤) (W : Given
       abbrev toRead : ℕ → ToRead .Ghost
       toRead i = ((tt, tt, tt, (r, (i, tt)), (reportValue r ∷ [], (vint w64 i ∷ [], tt))), tt)
 
-      -- it asks that i is below 32
-      asks-read : (i : ℕ) → i < 32 → i < 2 ^ 64 → ent 𝓤 (emp 𝓤) (ToRead .pre (toRead i))
-      asks-read i below fits =
-          qed W [] ∵ says ! below $ nothing ! $ owned ! usize (Is usize) (uint-makes 𝓤 H A W w64) i (vint w64 i ∷ []) (refl, fits) $ fjoin ! $
-          owned ! report.the-row (Is report.the-row) (struct.makes report.the-type report-laws.the-plain 𝓤 H A) r (reportValue r ∷ []) report-is $ fjoin ! $ nothing ! $ done !
+      -- it asks nothing of these
+      asks-read : (i : ℕ) → i < 2 ^ 64 → ent 𝓤 (emp 𝓤) (ToRead .pre (toRead i))
+      asks-read i fits =
+          qed W [] ∵ nothing ! $ owned ! usize (Is usize) (uint-makes 𝓤 H A W w64) i (vint w64 i ∷ []) (refl, fits) $ fjoin ! $
+          owned ! report.the-row (Is report.the-row) (struct.makes report.the-type report-laws.the-plain 𝓤 H A) r (reportValue r ∷ []) report-is $ fjoin ! $ nothing ! $ join ! $ frame ! $ done !
 
       -- how many records are filled, up to the report's length
       abbrev Upto : Type 0
@@ -285,7 +286,7 @@ module _ {M : Type 1} (𝓤 : URA M) (H : Heap 𝓤) (A : Atoms 𝓤) (W : Given
             assigns ! (bin ! (local ! 14 refl) (load ! (from ! (fld ! refl (stop !))) (look-in ! 16 (sub ! 1 refl (whole !)))) tt) (from ! (stop !)) (init ! 10 refl (tt, tt)) $
             rewrite ! 10 (λ (c : Bool). ‵ (fat fullShare tyBool l₆ 0 (vbool c))) less refl $ stays ! (local ! 10 refl) $
             -- the call. What it asks, and later what its result u owns, is entry 0, and every other entry stands one further
-            use0 W (raw (ToRead .pre (toRead (i .0)))) (asks-read (i .0) below i-fits) $
+            use0 W (raw (ToRead .pre (toRead (i .0)))) (asks-read (i .0) i-fits) $
             calls-at ! (fmOf 𝓤 H (W .laws) 𝓣) ToRead reads (toRead (i .0)) (and-then ! (local ! 17 refl) (and-then ! (local ! 15 refl) (no-more !))) (λ v.
             returned ! tt outcome.the-row (readClause r (i .0)) (λ u. u ≡ getD (r .outcomes) (i .0) zeroOutcome) (says-read r (i .0)) v (λ u e is.
             land ! (from ! (stop !)) (init ! 9 refl (struct.lawful outcome.the-type outcome-laws.the-laws 𝓤 H A W .typed u _ is .0)) $
@@ -300,14 +301,11 @@ module _ {M : Type 1} (𝓤 : URA M) (H : Heap 𝓤) (A : Atoms 𝓤) (W : Given
             -- i goes up by one, and the locals of the turn are empty again
             assigns-last ! (bin ! (local ! 14 refl) (lit ! tt) (record { fits = next-fits })) (from ! (stop !)) (store ! 14 refl (tt, record { fits = next-fits })) $
             forget ! 4 refl $ forget ! 6 refl $ forget ! 8 refl $ forget ! 10 refl $
-            rewrite ! 0 (λ (l : List Outcome). ‵ (row outcome.the-row fullShare l b o)) (filled-more t (i .0) ys u in-records (e ∙ made .outcomes (i .0) small)) refl $
+            rewrite ! 0 (λ (l : List Outcome). ‵ (row outcome.the-row fullShare l b o)) (filled-more t (i .0) ys u in-records (e ∙ outcome-there t n r made zeroOutcome (i .0) small)) refl $
             again ! Nearer At i next (omega (arith, small)))))
           where
             small : i .0 < r .len
             small = ltb-true (i .0) (r .len) less
-
-            below : i .0 < 32
-            below = omega (arith, small, made .short)
 
             in-records : i .0 < n
             in-records = omega (arith, small, fits-records t n r made)
