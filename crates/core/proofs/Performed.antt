@@ -19,7 +19,7 @@ use Rattle.model.specs.Shared.{noReceiver, codeOnly, targetBeyond}
 use Rattle.model.specs.Threads.{lock, look, at, put, edit, editBelow, marked, ended, joined, zeroed}
 use Rattle.model.specs.WellFormed.{Shaped}
 use Rattle.model.specs.Calls.{begun, beginTable, cancelTable, cancelReply, ticked, tickTable, Call, begin, cancel, tick, State, acceptedReply, acceptedState}
-use Rattle.model.specs.Refusals.{rowsOf, refusal}
+use Rattle.model.specs.Refusals.{rowsOf, refusal, tableRows, placeRows, beginRows, laterRows}
 use Rattle.model.specs.Promise.{state, Promise}
 use Rattle.model.proofs.Table.{the-row}
 use Rattle.model.proofs.Numbers.{size-read}
@@ -100,7 +100,7 @@ cancel-place x s e = omega (arith, accepted-cancel x s e .below, accepted-few (c
 module _ (x : ℕ) (t : Table) (e : refusal (cancel x) (state t []) ≡ 0) where
   -- the promise by the answer and the table that is left, whatever the store
   cancel-performed : (a : Answer) (after : Table) → said a ≡ replied (cancelReply x t) → after ≡ cancelTable x t → (store : List ℕ) → Promise (cancel x) (state t store) a (state after store)
-  unfolding acceptedReply acceptedState refusal rowsOf
+  unfolding acceptedReply acceptedState refusal rowsOf tableRows placeRows beginRows laterRows
   cancel-performed a after says left store = performed (cancel x) (state t store) e a (state after store) says (ap (λ (u : Table). state u store) left)
 
   -- of a running operation: h is the thread with its mark
@@ -116,7 +116,7 @@ module _ (x : ℕ) (t : Table) (e : refusal (cancel x) (state t []) ≡ 0) where
 module _ (t : Table) where
   -- the promise by the table that is left, whatever the store
   pub tick-performed : refusal tick (state t []) ≡ 0 → (after : Table) → after ≡ tickTable t → (store : List ℕ) → Promise tick (state t store) Accepted (state after store)
-  unfolding acceptedReply acceptedState refusal rowsOf
+  unfolding acceptedReply acceptedState refusal rowsOf tableRows placeRows beginRows laterRows
   tick-performed e after left store = performed tick (state t store) e Accepted (state after store) refl (ap (λ (u : Table). state u store) left)
 
   -- no thread is ticked yet

@@ -1,19 +1,21 @@
 -- A refused call keeps its promise, and so does making a table.
 use mathlib.Core.Path.{_≡_, refl, sym, _∙_, subst}
 use mathlib.Core.Logic.{_≢_}
-use mathlib.Core.List.{List}
-use Prim.Native.Nat.{ℕ, suc}
+use mathlib.Core.List.{List, [], _∷_}
+use Prim.Native.Nat.{ℕ, suc, _<_}
+use mathlib.Core.Bool.{true}
+use borrow.Author.Tests.{leb-false, not-false}
 use Rattle.model.specs.declared.Answer.the-variants.{Refused, Accepted}
 use Rattle.model.specs.declared.Table.{Table}
 use Rattle.model.specs.declared.Returned.{Returned}
-use Rattle.model.specs.Threads.{newTable}
-use Rattle.model.specs.Calls.{Call, State}
-use Rattle.model.specs.Refusals.{firstRefusal, refusal, makeRefusal, unless}
+use Rattle.model.specs.Threads.{newTable, at, lockFree}
+use Rattle.model.specs.Calls.{Call, State, cancel}
+use Rattle.model.specs.Refusals.{firstRefusal, refusal, makeRefusal, unless, tableRows, laterRows, noThread, lockOwned}
 use Rattle.model.specs.Promise.{state, Promise, makeAnswer, madeTable, MakePromise}
 use Rattle.laws.proofs.Lists.{zero-or-not}
 use Rattle.laws.proofs.Calls.{refused-next, refused-answer}
-use Rattle.refusals.specs.Rows.{tableRows}
-use Rattle.refusals.proofs.Groups.{laterRows, table-number, later-number}
+use Rattle.laws.proofs.Rows.{none-holds, group-refuses, group-passes}
+use Rattle.laws.proofs.Groups.{table-number, later-number}
 
 -- a call that is refused by a number answers it and changes nothing
 pub refused-promise : (c : Call) (s : State) (g : ℕ) → g ≡ refusal c s → g ≢ 0 → Promise c s (Refused g) s
@@ -47,3 +49,25 @@ module _ (n g : ℕ) (e : g ≡ makeRefusal n) where
   pub make-accepted : g ≡ 0 → MakePromise n Accepted (newTable n)
   unfolding makeAnswer madeTable unless
   make-accepted z = let r : makeRefusal n ≡ 0 = sym e ∙ z in record { answers = rw r refl; makes = rw r refl }
+
+-- ---- the rows of a cancel
+module _ (x : ℕ) (s : State) where
+  -- those on the thread's number come first
+  pub number-before-lock : (g : ℕ) → g ≡ firstRefusal (noThread (s .table) x ∷ []) → g ≢ 0 → g ≡ firstRefusal (laterRows (cancel x) s)
+  unfolding laterRows
+  number-before-lock g e d = group-refuses (noThread (s .table) x ∷ []) (lockOwned (s .table) x ∷ []) g e d
+
+  -- then those on its lock
+  pub lock-after-number : (f g : ℕ) → f ≡ firstRefusal (noThread (s .table) x ∷ []) → f ≡ 0 → g ≡ firstRefusal (lockOwned (s .table) x ∷ []) → g ≡ firstRefusal (laterRows (cancel x) s)
+  unfolding laterRows noThread
+  lock-after-number f g e z h = group-passes (noThread (s .table) x ∷ []) (lockOwned (s .table) x ∷ []) f g refl e z h
+
+-- a thread whose number is not refused is in the table
+pub number-below : (t : Table) (x f : ℕ) → f ≡ firstRefusal (noThread t x ∷ []) → f ≡ 0 → x < t .n
+unfolding noThread
+number-below t x f e z = leb-false (t .n) x (none-holds (noThread t x ∷ []) refl (sym e ∙ z) .0)
+
+-- one whose lock is not refused has a free lock
+pub lock-unowned : (t : Table) (x f : ℕ) → f ≡ firstRefusal (lockOwned t x ∷ []) → f ≡ 0 → lockFree (at t x) ≡ true
+unfolding lockOwned
+lock-unowned t x f e z = not-false (lockFree (at t x)) (none-holds (lockOwned t x ∷ []) refl (sym e ∙ z) .0)

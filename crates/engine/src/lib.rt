@@ -81,13 +81,15 @@ pub fn cancel(table: Table, thread: u8) -> Returned
     if first != 0 {
         return refuse(first, table);
     }
-    if table.n <= thread {
-        return refuse(3, table);
+    let second = refusals::number_refusal(table.n, thread);
+    if second != 0 {
+        return refuse(second, table);
     }
     let i = thread as usize;
     let own = table.threads[i];
-    if own.owner != threads::NOBODY {
-        return refuse(4, table);
+    let third = refusals::lock_refusal(own);
+    if third != 0 {
+        return refuse(third, table);
     }
     core::cancel(table, thread)
 }

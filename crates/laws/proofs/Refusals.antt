@@ -14,7 +14,7 @@ use Rattle.model.specs.Shared.{wordLimit, isTimeCode, hasReceive, receiveTime, 
 use Rattle.model.specs.Threads.{idle, phaseOf, at, lockFree}
 use Rattle.model.specs.WellFormed.{inPhase, sendInRange, receiveInRange, wellFormed}
 use Rattle.model.specs.Calls.{Call, begin, step, cancel, tick, State}
-use Rattle.model.specs.Refusals.{badSize, notWellFormed, noThread, badLength, lockOwned, notIdle, neitherPart, withItself, closedBeyond, noPartner, tooManyWords, badTime, threadAndStoreRows, rowsOf, refusal, outcomeRefusal}
+use Rattle.model.specs.Refusals.{badSize, notWellFormed, noThread, badLength, lockOwned, notIdle, neitherPart, withItself, closedBeyond, noPartner, tooManyWords, badTime, rowsOf, refusal, outcomeRefusal, tableRows, placeRows, beginRows, laterRows}
 use Rattle.model.proofs.Laws.{implies-made, _and_, all-of-made}
 use Rattle.laws.proofs.Rows.{numbered, NoneHolds, none-holds}
 use Rattle.laws.proofs.Phases.{in-idle}
@@ -22,7 +22,7 @@ use Rattle.laws.proofs.Lists.{or-left, or-right, second-fails}
 
 -- the rows of every call have numbers
 rows-numbered : (c : Call) (s : State) → numbered (rowsOf c s) ≡ true
-unfolding rowsOf threadAndStoreRows badSize notWellFormed noThread badLength lockOwned notIdle neitherPart withItself noPartner tooManyWords badTime
+unfolding rowsOf tableRows placeRows beginRows laterRows badSize notWellFormed noThread badLength lockOwned notIdle neitherPart withItself noPartner tooManyWords badTime
 rows-numbered (begin x o) s = refl
 rows-numbered (step x) s = refl
 rows-numbered (cancel x) s = refl
@@ -58,7 +58,7 @@ pub record AcceptedBegin (s : State) (x : ℕ) (o : Operation) : Type 0 where
 
 -- the second row is the same for every call
 second-row : (c : Call) (s : State) → NoneHolds (rowsOf c s) → not (wellFormed (s .table)) ≡ false
-unfolding rowsOf threadAndStoreRows badSize notWellFormed
+unfolding rowsOf tableRows placeRows beginRows laterRows badSize notWellFormed
 second-row (begin x o) s r = r .1 .0
 second-row (step x) s r = r .1 .0
 second-row (cancel x) s r = r .1 .0
@@ -70,18 +70,18 @@ accepted-table c s e = not-false (wellFormed (s .table)) (second-row c s (accept
 
 -- a step that is not refused is of a thread of the table, and the store has its words
 pub accepted-step : (x : ℕ) (s : State) → refusal (step x) s ≡ 0 → AcceptedStep s x
-unfolding rowsOf threadAndStoreRows noThread badLength
+unfolding rowsOf tableRows placeRows beginRows laterRows noThread badLength
 accepted-step x s e = let (size, (formed, (below, (store, end)))) = accepted-rows (step x) s e in
     record { below = leb-false (s .table .n) x below; store = eqb-true (length (s .store)) (8 * s .table .n) (not-false (eqb (length (s .store)) (8 * s .table .n)) store) }
 
 -- the outcome call is refused as a step is
 pub outcome-as-step : (s : State) (x : ℕ) → outcomeRefusal s x ≡ refusal (step x) s
-unfolding outcomeRefusal refusal rowsOf
+unfolding outcomeRefusal refusal rowsOf tableRows placeRows beginRows laterRows
 outcome-as-step s x = refl
 
 -- a cancel that is not refused is of a thread of the table, and its lock is free
 pub accepted-cancel : (x : ℕ) (s : State) → refusal (cancel x) s ≡ 0 → AcceptedCancel s x
-unfolding rowsOf noThread lockOwned
+unfolding rowsOf tableRows placeRows beginRows laterRows noThread lockOwned
 accepted-cancel x s e = let (size, (formed, (below, (free, end)))) = accepted-rows (cancel x) s e in
     record { below = leb-false (s .table .n) x below; free = not-false (lockFree (at (s .table) x)) free }
 
@@ -109,7 +109,7 @@ receive-in-range n (Closed w) time near = all-of-made _ (time and lt-ltb (w .par
 
 -- what a begin that is not refused has been tested for
 pub accepted-begin : (x : ℕ) (o : Operation) (s : State) → refusal (begin x o) s ≡ 0 → AcceptedBegin s x o
-unfolding rowsOf noThread badLength lockOwned notIdle neitherPart withItself noPartner tooManyWords badTime
+unfolding rowsOf tableRows placeRows beginRows laterRows noThread badLength lockOwned notIdle neitherPart withItself noPartner tooManyWords badTime
 accepted-begin x o s e =
     let (size, (formed, (below, (store, (free, (inIdle, (part, (itself, (partner, (words, (time, end))))))))))) = accepted-rows (begin x o) s e in
     let toItself = o .send .present && eqb (o .send .target) x in

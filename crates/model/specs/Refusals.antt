@@ -1,6 +1,6 @@
 -- Document 01, "What a refused call returns": the rows of its table, and for each call those that concern it, in the order of checking.
 use mathlib.Core.Bool.{Bool, false, not, cond, _&&_, _||_}
-use mathlib.Core.List.{List, [], _∷_}
+use mathlib.Core.List.{List, [], _∷_, _++_}
 use Prim.Native.Nat.{ℕ, zero, suc, _*_}
 use lib.ListN.{length}
 use lib.Dec.{eqb, leb, ltb}
@@ -81,18 +81,28 @@ badTime o = record {
   number = 10;
 }
 
--- the rows that concern a table, a thread of it and a word store: all those of step and outcome
-unfoldable pub threadAndStoreRows : State → ℕ → List Row
-threadAndStoreRows s x = badSize (s .table .n) ∷ notWellFormed (s .table) ∷ noThread (s .table) x ∷ badLength (8 * s .table .n) (length (s .store)) ∷ []
+-- the rows on the table, which every call takes that is given one
+unfoldable pub tableRows : Table → List Row
+tableRows t = badSize (t .n) ∷ notWellFormed t ∷ []
 
--- the rows of each call
+-- the rows on a thread's number and on the length of a word store
+unfoldable pub placeRows : Table → ℕ → ℕ → List Row
+placeRows t x words = noThread t x ∷ badLength (8 * t .n) words ∷ []
+
+-- the rows on a thread that begins and on its operation
+unfoldable pub beginRows : Table → ℕ → Operation → List Row
+beginRows t x o = lockOwned t x ∷ notIdle t x ∷ neitherPart o ∷ withItself x o ∷ noPartner t o ∷ tooManyWords o ∷ badTime o ∷ []
+
+-- the rows of each call after those on the table
+unfoldable pub laterRows : Call → State → List Row
+laterRows (begin x o) s = placeRows (s .table) x (length (s .store)) ++ beginRows (s .table) x o
+laterRows (step x) s = placeRows (s .table) x (length (s .store))
+laterRows (cancel x) s = noThread (s .table) x ∷ lockOwned (s .table) x ∷ []
+laterRows tick s = []
+
+-- the rows of each call, in the order of checking
 unfoldable pub rowsOf : Call → State → List Row
-rowsOf (begin x o) s =
-    badSize (s .table .n) ∷ notWellFormed (s .table) ∷ noThread (s .table) x ∷ badLength (8 * s .table .n) (length (s .store))
-    ∷ lockOwned (s .table) x ∷ notIdle (s .table) x ∷ neitherPart o ∷ withItself x o ∷ noPartner (s .table) o ∷ tooManyWords o ∷ badTime o ∷ []
-rowsOf (step x) s = threadAndStoreRows s x
-rowsOf (cancel x) s = badSize (s .table .n) ∷ notWellFormed (s .table) ∷ noThread (s .table) x ∷ lockOwned (s .table) x ∷ []
-rowsOf tick s = badSize (s .table .n) ∷ notWellFormed (s .table) ∷ []
+rowsOf c s = tableRows (s .table) ++ laterRows c s
 
 -- the number by which a call is refused, or 0
 unfoldable pub refusal : Call → State → ℕ
@@ -104,8 +114,8 @@ makeRefusal n = firstRefusal (badSize n ∷ [])
 
 -- the outcome of thread x
 unfoldable pub outcomeRefusal : State → ℕ → ℕ
-outcomeRefusal s x = firstRefusal (threadAndStoreRows s x)
+outcomeRefusal s x = firstRefusal (tableRows (s .table) ++ placeRows (s .table) x (length (s .store)))
 
 -- a report into a slice of so many records
 unfoldable pub reportRefusal : Table → ℕ → ℕ
-reportRefusal t records = firstRefusal (badSize (t .n) ∷ notWellFormed t ∷ badLength (t .n) records ∷ [])
+reportRefusal t records = firstRefusal (tableRows t ++ (badLength (t .n) records ∷ []))

@@ -1,5 +1,5 @@
 -- When a report is right: where the call is refused, and where it is accepted; and records that are filled with outcomes one after the other.
-use mathlib.Core.Path.{_≡_, refl, sym, _∙_, ap}
+use mathlib.Core.Path.{_≡_, refl, sym, _∙_}
 use mathlib.Core.Logic.{_≢_}
 use mathlib.Core.List.{List, [], _∷_, _++_, append-nil}
 use Prim.Native.Nat.{ℕ, zero, suc, _+_, _≤_, _<_}
@@ -8,20 +8,18 @@ use native.Mathlib.Numerals.{add-one}
 use lib.ListN.{length, getD, drop, set, length-append, length-drop, drop-of-length-le, List·getD-append}
 use lib.Seq.{drop-cons, append-snoc, set-at, getD-at}
 use lib.Dec.{eqb}
-use borrow.Author.Tests.{eqb-true, not-false, eq-eqb, ne-eqb}
+use borrow.Author.Tests.{eqb-true, not-false}
 use Rattle.model.specs.declared.Outcome.{Outcome}
 use Rattle.model.specs.declared.Table.{Table}
 use Rattle.model.specs.declared.Answer.the-variants.{Refused, Accepted}
 use Rattle.model.specs.Lists.{upTo}
 use Rattle.model.specs.Threads.{at}
 use Rattle.model.specs.WellFormed.{sizeInRange}
-use Rattle.model.specs.Refusals.{unless, badSize, notWellFormed, badLength, reportRefusal, firstRefusal}
+use Rattle.model.specs.Refusals.{unless, badSize, notWellFormed, badLength, reportRefusal, tableRows}
 use Rattle.model.proofs.Laws.{same?, length-up-to}
 use Rattle.model.proofs.Numbers.{size-read}
 use Rattle.laws.proofs.Lists.{zero-or-not}
-use Rattle.laws.proofs.Rows.{none-holds, first-none, first-here, first-later, group-refuses, group-passes}
-use mathlib.Core.Bool.{not}
-use Rattle.refusals.specs.Rows.{tableRows}
+use Rattle.laws.proofs.Rows.{none-holds}
 use Rattle.outcomes.specs.Report.{allOutcomes, Reported}
 
 -- ---- filling records
@@ -71,7 +69,7 @@ read-outcome t d i l = read-up-to 32 (outcomeOf t) d i l
 
 -- one that is not refused is of at most 32 threads, with a record for each
 pub report-fits : (t : Table) (records : ℕ) → reportRefusal t records ≡ 0 → (t .n ≤ 32) × (records ≡ t .n)
-unfolding reportRefusal badSize notWellFormed badLength
+unfolding reportRefusal tableRows badSize notWellFormed badLength
 report-fits t records e = let (size, (formed, (long, end))) = none-holds (badSize (t .n) ∷ notWellFormed t ∷ badLength (t .n) records ∷ []) refl e in
     (size-read (t .n) (not-false (sizeInRange (t .n)) size) .1, eqb-true records (t .n) (not-false (eqb records (t .n)) long))
 
@@ -87,26 +85,3 @@ module _ (t : Table) (records : ℕ) (outcomes : List Outcome) (all : outcomes �
   pub accepted-report : 0 ≡ reportRefusal t records → Reported t records (record { answer = Accepted; len = records; outcomes = outcomes })
   unfolding unless
   accepted-report e = record { answers = rw (sym e) refl; fills = rw (sym e) refl; outcomes = all }
-
--- ---- the rows of a report
-module _ (t : Table) (records f : ℕ) (rows : f ≡ firstRefusal (tableRows t)) where
-  -- those on the table come first
-  pub report-table : f ≢ 0 → f ≡ reportRefusal t records
-  unfolding reportRefusal tableRows
-  report-table d = group-refuses (tableRows t) (badLength (t .n) records ∷ []) f rows d
-
-  module _ (z : f ≡ 0) where
-    -- then the number of records
-    report-length : (g : ℕ) → g ≡ firstRefusal (badLength (t .n) records ∷ []) → g ≡ reportRefusal t records
-    unfolding reportRefusal tableRows badSize notWellFormed
-    report-length g e = group-passes (tableRows t) (badLength (t .n) records ∷ []) f g refl rows z e
-
-    -- which is wrong
-    pub report-wrong-length : records ≢ t .n → 11 ≡ reportRefusal t records
-    unfolding badLength
-    report-wrong-length d = report-length 11 (sym (first-here _ _ (ap not (ne-eqb records (t .n) d))))
-
-    -- or right
-    pub report-right-length : records ≡ t .n → 0 ≡ reportRefusal t records
-    unfolding badLength
-    report-right-length e = report-length 0 (sym (first-later _ _ (ap not (eq-eqb records (t .n) e)) ∙ first-none))

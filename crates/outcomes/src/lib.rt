@@ -92,10 +92,10 @@ pub fn reported(table: Table, records: usize) -> Report
             outcomes: outcomes,
         };
     }
-    let n = table.n as usize;
-    if records != n {
+    let second = refusals::length_refusal(table.n as usize, records);
+    if second != 0 {
         return Report {
-            answer: Answer::Refused(11),
+            answer: Answer::Refused(second),
             len: 0,
             outcomes: outcomes,
         };

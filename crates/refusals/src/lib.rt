@@ -1,27 +1,45 @@
-// The refusals of document 01's table, in the order of its rows.
+// The refusals of document 01's table: one function for each row or group of rows, joined in the order of checking.
 ghost use mathlib.Core.Path.{_≡_};
+ghost use mathlib.Core.List.{[], _∷_};
 ghost use Prim.Native.Nat.{ℕ};
 ghost use Rattle.model.specs.declared.Table.{Table};
 ghost use Rattle.model.specs.Threads.{at};
-ghost use Rattle.model.specs.Refusals.{firstRefusal, closedBeyond, makeRefusal};
-ghost use Rattle.refusals.specs.Rows.{tableRows, placeRows, threadRows, operationRows, beginRows};
+ghost use Rattle.model.specs.Refusals.{firstRefusal, noThread, badLength, lockOwned, closedBeyond, tableRows, placeRows, beginRows, makeRefusal};
+ghost use Rattle.refusals.specs.Rows.{firstOf, threadRows, operationRows};
 use model::Operation;
 use model::Receive;
-use model::SendPart;
 use model::Table;
 use model::Thread;
+use threads::IDLE;
+use threads::LAST_TIME_CODE;
+use threads::NOBODY;
+use threads::WORD_LIMIT;
+
+// The number of a row that holds, else 0.
+fn row(holds: bool, number: u8) -> u8
+    ensures { λ r. ⌜ r ≡ firstRefusal (record { when = holds; number = number } ∷ []) ⌝ }
+{
+    if holds {
+        return number;
+    }
+    0
+}
+
+// The first of two refusals, each 0 where there is none.
+fn first(f: u8, g: u8) -> u8
+    ensures { λ r. ⌜ r ≡ firstOf f g ⌝ }
+{
+    if f == 0 {
+        return g;
+    }
+    f
+}
 
 // N is 0 or above 32.
 pub fn size_refusal(n: u8) -> u8
     ensures { λ r. ⌜ r ≡ makeRefusal n ⌝ }
 {
-    if n == 0 {
-        return 1;
-    }
-    if 32 < n {
-        return 1;
-    }
-    0
+    row(!((1 <= n) & (n <= 32)), 1)
 }
 
 // The rows on the table: its size, and whether it is well-formed.
@@ -29,13 +47,47 @@ pub fn table_refusal(table: Table) -> u8
     ensures { λ r. ⌜ r ≡ firstRefusal (tableRows table) ⌝ }
 {
     let size = size_refusal(table.n);
-    if size != 0 {
-        return size;
-    }
-    if wellformed::well_formed(table) {
-        return 0;
-    }
-    2
+    let formed = row(!wellformed::well_formed(table), 2);
+    first(size, formed)
+}
+
+// Thread x is N or more.
+pub fn number_refusal(n: u8, x: u8) -> u8
+    ensures { λ r. ⌜ ((t : Table) → t .n ≡ n → r ≡ firstRefusal (noThread t x ∷ [])) ⌝ }
+{
+    row(n <= x, 3)
+}
+
+// A store or a slice of records has not the length that it should have.
+pub fn length_refusal(expected: usize, actual: usize) -> u8
+    ensures { λ r. ⌜ r ≡ firstRefusal (badLength expected actual ∷ []) ⌝ }
+{
+    row(actual != expected, 11)
+}
+
+// The rows on a thread's number and the length of a word store.
+pub fn place_refusal(n: u8, x: u8, words: usize) -> u8
+    ensures { λ r. ⌜ ((t : Table) → t .n ≡ n → r ≡ firstRefusal (placeRows t x words)) ⌝ }
+{
+    let number = number_refusal(n, x);
+    let length = length_refusal(8 * (n as usize), words);
+    first(number, length)
+}
+
+// The lock of a thread, which is h, is owned.
+pub fn lock_refusal(h: Thread) -> u8
+    ensures { λ r. ⌜ ((t : Table) (x : ℕ) → at t x ≡ h → r ≡ firstRefusal (lockOwned t x ∷ [])) ⌝ }
+{
+    row(!(h.owner == NOBODY), 4)
+}
+
+// The rows on the thread that begins, which is h: its lock is owned, or its phase is not idle.
+fn thread_refusal(h: Thread) -> u8
+    ensures { λ r. ⌜ ((t : Table) (x : ℕ) → at t x ≡ h → r ≡ firstRefusal (threadRows t x)) ⌝ }
+{
+    let lock = lock_refusal(h);
+    let phase = row(!(h.phase == IDLE), 5);
+    first(lock, phase)
 }
 
 // Closed partner is N or more.
@@ -50,66 +102,32 @@ fn closed_beyond(n: u8, receive: Receive) -> bool
 }
 
 // The rows on the operation that thread x begins.
-pub fn operation_refusal(n: u8, x: u8, op: Operation) -> u8
+fn operation_refusal(n: u8, x: u8, op: Operation) -> u8
     ensures { λ r. ⌜ ((t : Table) → t .n ≡ n → r ≡ firstRefusal (operationRows t x op)) ⌝ }
 {
     let send = op.send;
     let receive = op.receive;
     let receives = threads::has_receive(receive);
-    if !(send.present | receives) {
-        return 6;
-    }
-    if (send.present & (send.target == x)) | threads::closed_on(receive, x) {
-        return 7;
-    }
-    if closed_beyond(n, receive) {
-        return 8;
-    }
-    if send.present & (threads::WORD_LIMIT < send.count) {
-        return 9;
-    }
-    if (send.present & (threads::LAST_TIME_CODE < send.time))
-        | (receives & (threads::LAST_TIME_CODE < threads::receive_time(receive)))
-    {
-        return 10;
-    }
-    0
+    let waits = threads::receive_time(receive);
+    let neither = row(!(send.present | receives), 6);
+    let itself = row(
+        (send.present & (send.target == x)) | threads::closed_on(receive, x),
+        7,
+    );
+    let partner = row(closed_beyond(n, receive), 8);
+    let words = row(send.present & (WORD_LIMIT < send.count), 9);
+    let time = row(
+        (send.present & (LAST_TIME_CODE < send.time)) | (receives & (LAST_TIME_CODE < waits)),
+        10,
+    );
+    first(neither, first(itself, first(partner, first(words, time))))
 }
 
-// The rows on the thread that begins: its lock is owned, or its phase is not idle.
-pub fn thread_refusal(h: Thread) -> u8
-    ensures { λ r. ⌜ ((t : Table) (x : ℕ) → at t x ≡ h → r ≡ firstRefusal (threadRows t x)) ⌝ }
-{
-    if h.owner != threads::NOBODY {
-        return 4;
-    }
-    if h.phase != threads::IDLE {
-        return 5;
-    }
-    0
-}
-
-// The rows on a thread's number and the length of a store.
-pub fn place_refusal(n: u8, x: u8, words: usize) -> u8
-    ensures { λ r. ⌜ ((t : Table) → t .n ≡ n → r ≡ firstRefusal (placeRows t x words)) ⌝ }
-{
-    if n <= x {
-        return 3;
-    }
-    let expected = 8 * (n as usize);
-    if words != expected {
-        return 11;
-    }
-    0
-}
-
-// The rows of a begin on its thread, which is h, and its operation.
+// The rows on the thread that begins, which is h, and on its operation.
 pub fn begin_refusal(n: u8, x: u8, h: Thread, op: Operation) -> u8
     ensures { λ r. ⌜ ((t : Table) → t .n ≡ n → at t x ≡ h → r ≡ firstRefusal (beginRows t x op)) ⌝ }
 {
-    let first = thread_refusal(h);
-    if first != 0 {
-        return first;
-    }
-    operation_refusal(n, x, op)
+    let thread = thread_refusal(h);
+    let operation = operation_refusal(n, x, op);
+    first(thread, operation)
 }

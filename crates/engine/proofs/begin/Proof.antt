@@ -5,10 +5,9 @@ use borrow.Author.Needs.{needs}
 use Rattle.model.specs.Calls.{begin}
 use Rattle.model.specs.Promise.{state}
 use Rattle.model.specs.Threads.{at}
-use Rattle.core.proofs.Kept.{begin-accepted}
+use Rattle.laws.proofs.Groups.{table-formed, table-few, place-below, place-store, place-before-begin, begin-after-place}
+use Rattle.core.proofs.Kept.{begin-number}
 use Rattle.engine.proofs.Refused.{refused-as, table-refuses, later-refuses}
-use Rattle.refusals.proofs.Groups.{table-formed, table-few, place-below, place-store, place-before-begin, begin-after-place}
-use Rattle.refusals.specs.Rows.{threadRows, operationRows, beginRows}
 use Rattle.engine.proofs.begin.Statement.{statement}
 use Rattle.engine.proofs.begin.Tie as tie
 
@@ -41,7 +40,7 @@ mul-own c = search needs
 element-copy-out-own : tie.Need-element-copy-out-own
 element-copy-out-own c =
     let a = c .before .before .before .before .before .args in
-    omega (arith, table-few _ _ (c .before .before .before .table-refusal .ensures) (c .before .before .if1 .left), place-below (a .t1) _ _ _ (c .before .place-refusal .ensures (a .t1) refl) (c .if2 .left))
+    omega (arith, table-few (a .t1) _ (c .before .before .before .table-refusal .ensures) (c .before .before .if1 .left), place-below (a .t1) _ _ _ (c .before .place-refusal .ensures (a .t1) refl) (c .if2 .left))
 
 begin-refusal-requires : tie.Need-begin-refusal-requires
 begin-refusal-requires c κs = search needs
@@ -56,12 +55,8 @@ returns-3 c =
     refused-as _ (c .refuse3 .ensures) (later-refuses (begin (a .thread) (a .op)) _ _ (c .before .before .before .before .before .before .before .table-refusal .ensures) (c .before .before .before .before .before .before .if1 .left) _ (begin-after-place (a .thread) (a .op) (state (a .t1) (now (a .store))) _ _ (c .before .before .before .before .before .place-refusal .ensures (a .t1) refl) (c .before .before .before .before .if2 .left) (c .before .before .begin-refusal .ensures (a .t1) refl refl)) (c .before .if3 .taken))
 
 begin-requires : tie.Need-begin-requires
-unfolding at threadRows operationRows beginRows
-begin-requires c κs =
-    let a = c .before .before .before .before .before .before .before .before .before .args in
-    let place-refusal-result = c .before .before .before .before .before .place-refusal .ensures in
-    let test2 = c .before .before .before .before .if2 .left in
-    begin-accepted (a .thread) (a .op) _ (table-formed _ _ (c .before .before .before .before .before .before .before .table-refusal .ensures) (c .before .before .before .before .before .before .if1 .left)) (place-below (a .t1) _ _ _ (place-refusal-result (a .t1) refl) test2) (place-store (a .t1) _ _ _ (place-refusal-result (a .t1) refl) test2) (sym (c .before .before .begin-refusal .ensures (a .t1) refl refl) ∙ c .before .if3 .left)
+unfolding at
+begin-requires c κs = let place = c .before .before .before .before .before .place-refusal .ensures (c .before .before .before .before .before .before .before .before .before .args .t1) refl in begin-number _ (table-formed (c .before .before .before .before .before .before .before .before .before .args .t1) _ (c .before .before .before .before .before .before .before .table-refusal .ensures) (c .before .before .before .before .before .before .if1 .left)) (c .before .before .before .before .before .before .before .before .before .args .thread) (place-below (c .before .before .before .before .before .before .before .before .before .args .t1) _ _ _ place (c .before .before .before .before .if2 .left)) (place-store (c .before .before .before .before .before .before .before .before .before .args .t1) _ _ _ place (c .before .before .before .before .if2 .left)) (c .before .before .before .before .before .before .before .before .before .args .op) ∙ sym (c .before .before .begin-refusal .ensures (c .before .before .before .before .before .before .before .before .before .args .t1) refl refl) ∙ c .before .if3 .left
 
 same-length : tie.Need-same-length
 same-length c = search needs

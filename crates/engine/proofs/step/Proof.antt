@@ -1,9 +1,10 @@
 use mathlib.Core.Path.{refl}
 use borrow.Author.Needs.{needs}
 use Rattle.model.specs.Calls.{step}
+use Rattle.model.specs.Refusals.{laterRows}
+use Rattle.laws.proofs.Groups.{table-formed, place-below, place-store}
 use Rattle.core.proofs.Kept.{step-accepted}
 use Rattle.engine.proofs.Refused.{refused-as, table-refuses, later-refuses}
-use Rattle.refusals.proofs.Groups.{table-formed, place-below, place-store}
 use Rattle.engine.proofs.step.Statement.{statement}
 use Rattle.engine.proofs.step.Tie as tie
 
@@ -23,16 +24,13 @@ refuse-requires-2 : tie.Need-refuse-requires-2
 refuse-requires-2 c κs = search needs
 
 returns-2 : tie.Need-returns-2
+unfolding laterRows
 returns-2 c =
     let a = c .before .before .before .before .before .before .args in
     refused-as _ (c .refuse2 .ensures) (later-refuses (step (a .thread)) _ _ (c .before .before .before .before .table-refusal .ensures) (c .before .before .before .if1 .left) _ (c .before .before .place-refusal .ensures (a .table) refl) (c .before .if2 .taken))
 
 step-requires : tie.Need-step-requires
-step-requires c κs =
-    let a = c .before .before .before .before .before .before .args in
-    let place-refusal-result = c .before .before .place-refusal .ensures in
-    let test2 = c .before .if2 .left in
-    step-accepted (a .thread) _ (table-formed _ _ (c .before .before .before .before .table-refusal .ensures) (c .before .before .before .if1 .left)) (place-below (a .table) _ _ _ (place-refusal-result (a .table) refl) test2) (place-store (a .table) _ _ _ (place-refusal-result (a .table) refl) test2)
+step-requires c κs = let place = c .before .before .place-refusal .ensures (c .before .before .before .before .before .before .args .table) refl in step-accepted _ (table-formed (c .before .before .before .before .before .before .args .table) _ (c .before .before .before .before .table-refusal .ensures) (c .before .before .before .if1 .left)) (c .before .before .before .before .before .before .args .thread) (place-below (c .before .before .before .before .before .before .args .table) _ _ _ place (c .before .if2 .left)) (place-store (c .before .before .before .before .before .before .args .table) _ _ _ place (c .before .if2 .left))
 
 same-length : tie.Need-same-length
 same-length c = search needs

@@ -2,9 +2,10 @@ use mathlib.Core.Path.{refl}
 use native.Mathlib.Omega.{arith}
 use borrow.Author.Needs.{needs}
 use Rattle.model.specs.Calls.{step}
+use Rattle.model.specs.Refusals.{laterRows}
 use Rattle.model.specs.Threads.{at}
+use Rattle.laws.proofs.Groups.{table-number, later-number, table-few, place-below}
 use Rattle.outcomes.proofs.Shown.{outcome-refused, outcome-shown}
-use Rattle.refusals.proofs.Groups.{table-number, later-number, table-few, place-below}
 use Rattle.outcomes.proofs.outcome.Statement.{statement}
 use Rattle.outcomes.proofs.outcome.Tie as tie
 
@@ -20,6 +21,7 @@ place-refusal-requires : tie.Need-place-refusal-requires
 place-refusal-requires c κs = search needs
 
 returns-2 : tie.Need-returns-2
+unfolding laterRows
 returns-2 c =
     let a = c .before .before .before .before .before .args in
     outcome-refused _ (a .thread) _ (later-number (step (a .thread)) _ _ (c .before .before .before .table-refusal .ensures) (c .before .before .if1 .left) _ (c .before .place-refusal .ensures (a .t1) refl)) (c .if2 .taken)
@@ -30,10 +32,10 @@ mul-own c = search needs
 element-copy-out-own : tie.Need-element-copy-out-own
 element-copy-out-own c =
     let a = c .before .before .before .before .before .args in
-    omega (arith, table-few _ _ (c .before .before .before .table-refusal .ensures) (c .before .before .if1 .left), place-below (a .t1) _ _ _ (c .before .place-refusal .ensures (a .t1) refl) (c .if2 .left))
+    omega (arith, table-few (a .t1) _ (c .before .before .before .table-refusal .ensures) (c .before .before .if1 .left), place-below (a .t1) _ _ _ (c .before .place-refusal .ensures (a .t1) refl) (c .if2 .left))
 
 returns-3 : tie.Need-returns-3
-unfolding at
+unfolding at laterRows
 returns-3 c =
     let a = c .before .before .before .before .before .before .before .args in
     outcome-shown _ (a .thread) _ (later-number (step (a .thread)) _ _ (c .before .before .before .before .before .table-refusal .ensures) (c .before .before .before .before .if1 .left) _ (c .before .before .before .place-refusal .ensures (a .t1) refl)) (c .before .before .if2 .left)

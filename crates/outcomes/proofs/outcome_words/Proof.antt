@@ -2,9 +2,10 @@ use mathlib.Core.Path.{refl, _∙_}
 use native.Mathlib.Omega.{arith}
 use borrow.Author.Needs.{needs}
 use Rattle.model.specs.Calls.{step}
+use Rattle.model.specs.Refusals.{laterRows}
 use Rattle.model.specs.Threads.{at}
+use Rattle.laws.proofs.Groups.{table-number, later-number, table-formed, table-few, place-below, place-store}
 use Rattle.outcomes.proofs.Shown.{words-refused, words-shown, count-fits}
-use Rattle.refusals.proofs.Groups.{table-number, later-number, table-formed, table-few, place-below, place-store}
 use Rattle.outcomes.proofs.outcome_words.Statement.{statement}
 use Rattle.outcomes.proofs.outcome_words.Tie as tie
 
@@ -39,6 +40,7 @@ part-result-end-2 : tie.Need-part-result-end-2
 part-result-end-2 c = search needs
 
 returns-2 : tie.Need-returns-2
+unfolding laterRows
 returns-2 c =
     let a = c .before .before .before .before .before .before .args in
     words-refused _ (a .thread) _ (later-number (step (a .thread)) _ _ (c .before .before .before .before .table-refusal .ensures) (c .before .before .before .if1 .left) _ (c .before .before .place-refusal .ensures (a .t1) refl)) (c .before .if2 .taken)
@@ -49,7 +51,7 @@ mul-own c = search needs
 element-copy-out-own : tie.Need-element-copy-out-own
 element-copy-out-own c =
     let a = c .before .before .before .before .before .args in
-    omega (arith, table-few _ _ (c .before .before .before .table-refusal .ensures) (c .before .before .if1 .left), place-below (a .t1) _ _ _ (c .before .place-refusal .ensures (a .t1) refl) (c .if2 .left))
+    omega (arith, table-few (a .t1) _ (c .before .before .before .table-refusal .ensures) (c .before .before .if1 .left), place-below (a .t1) _ _ _ (c .before .place-refusal .ensures (a .t1) refl) (c .if2 .left))
 
 first-words-requires : tie.Need-first-words-requires
 unfolding at
@@ -57,10 +59,10 @@ first-words-requires c κs =
     let a = c .before .before .before .before .before .before .before .args in
     let place-refusal-result = c .before .before .before .place-refusal .ensures in
     let test2 = c .before .before .if2 .left in
-    (omega (arith, place-below (a .t1) _ _ _ (place-refusal-result (a .t1) refl) test2, place-store (a .t1) _ _ _ (place-refusal-result (a .t1) refl) test2), count-fits (a .t1) (table-formed _ _ (c .before .before .before .before .before .table-refusal .ensures) (c .before .before .before .before .if1 .left)) _ (place-below (a .t1) _ _ _ (place-refusal-result (a .t1) refl) test2))
+    (omega (arith, place-below (a .t1) _ _ _ (place-refusal-result (a .t1) refl) test2, place-store (a .t1) _ _ _ (place-refusal-result (a .t1) refl) test2), count-fits (a .t1) (table-formed (a .t1) _ (c .before .before .before .before .before .table-refusal .ensures) (c .before .before .before .before .if1 .left)) _ (place-below (a .t1) _ _ _ (place-refusal-result (a .t1) refl) test2))
 
 returns-3 : tie.Need-returns-3
-unfolding at
+unfolding at laterRows
 returns-3 c =
     let a = c .before .before .before .before .before .before .before .before .args in
     c .first-words .ensures ∙ words-shown _ (a .thread) _ (later-number (step (a .thread)) _ _ (c .before .before .before .before .before .before .table-refusal .ensures) (c .before .before .before .before .before .if1 .left) _ (c .before .before .before .before .place-refusal .ensures (a .t1) refl)) (c .before .before .before .if2 .left)

@@ -1,8 +1,11 @@
-use mathlib.Core.Path.{sym, _∙_}
+use mathlib.Core.Bool.{Bool, not, _&&_, _||_}
+use mathlib.Core.List.{[], _∷_}
+use mathlib.Core.Path.{refl, sym, ap, _∙_}
+use Prim.Native.Nat.{ℕ}
+use lib.Dec.{eqb}
 use borrow.Author.Needs.{needs}
-use Rattle.model.specs.Refusals.{neitherPart, withItself, noPartner, tooManyWords, badTime}
-use Rattle.laws.proofs.Rows.{first-none, first-here, first-later}
-use Rattle.refusals.proofs.Laws.{neither-when, itself-when, partner-when, words-when, time-when}
+use Rattle.model.specs.Refusals.{neitherPart, withItself, closedBeyond, noPartner, tooManyWords, badTime}
+use Rattle.refusals.proofs.Laws.{first-joined, row-as, time-row}
 use Rattle.refusals.specs.Rows.{operationRows}
 use Rattle.refusals.proofs.operation_refusal.Statement.{statement}
 use Rattle.refusals.proofs.operation_refusal.Tie as tie
@@ -10,62 +13,69 @@ use Rattle.refusals.proofs.operation_refusal.Tie as tie
 has-receive-requires : tie.Need-has-receive-requires
 has-receive-requires c κs = search needs
 
-returns : tie.Need-returns
-unfolding operationRows neitherPart withItself noPartner tooManyWords badTime
-returns c = λ t e. sym (first-here _ _ (neither-when (c .before .before .before .before .args .op) _ _ (c .before .before .has-receive .ensures) (c .if1 .taken)))
+receive-time-requires : tie.Need-receive-time-requires
+receive-time-requires c κs = search needs
+
+row-requires : tie.Need-row-requires
+row-requires c κs = search needs
 
 closed-on-requires : tie.Need-closed-on-requires
 closed-on-requires c κs = search needs
 
-returns-2 : tie.Need-returns-2
-unfolding operationRows neitherPart withItself noPartner tooManyWords badTime
-returns-2 c =
-    let a = c .before .before .before .before .before .before .before .before .args in
-    λ t e. sym (first-later _ _ (neither-when (a .op) _ _ (c .before .before .before .before .before .before .has-receive .ensures) (c .before .before .before .before .if1 .left)) ∙ first-here _ _ (itself-when (a .op) _ (a .x) _ (c .before .closed-on .ensures) (c .if2 .taken)))
+row-requires-2 : tie.Need-row-requires-2
+row-requires-2 c κs = search needs
 
 closed-beyond-requires : tie.Need-closed-beyond-requires
 closed-beyond-requires c κs = search needs
 
-returns-3 : tie.Need-returns-3
-unfolding operationRows neitherPart withItself noPartner tooManyWords badTime
-returns-3 c =
-    let a = c .before .before .before .before .before .before .before .before .before .before .args in
-    λ t e. sym (first-later _ _ (neither-when (a .op) _ _ (c .before .before .before .before .before .before .before .before .has-receive .ensures) (c .before .before .before .before .before .before .if1 .left)) ∙ first-later _ _ (itself-when (a .op) _ (a .x) _ (c .before .before .before .closed-on .ensures) (c .before .before .if2 .left)) ∙ first-here _ _ (partner-when (a .op) _ t (a .n) e _ (c .before .closed-beyond .ensures) (c .if3 .taken)))
+row-requires-3 : tie.Need-row-requires-3
+row-requires-3 c κs = search needs
 
-returns-4 : tie.Need-returns-4
-unfolding operationRows neitherPart withItself noPartner tooManyWords badTime
-returns-4 c =
-    let a = c .before .before .before .before .before .before .before .before .before .before .before .before .before .args in
-    λ t e. sym (first-later _ _ (neither-when (a .op) _ _ (c .before .before .before .before .before .before .before .before .before .before .before .has-receive .ensures) (c .before .before .before .before .before .before .before .before .before .if1 .left)) ∙ first-later _ _ (itself-when (a .op) _ (a .x) _ (c .before .before .before .before .before .before .closed-on .ensures) (c .before .before .before .before .before .if2 .left)) ∙ first-later _ _ (partner-when (a .op) _ t (a .n) e _ (c .before .before .before .before .closed-beyond .ensures) (c .before .before .before .if3 .left)) ∙ first-here _ _ (words-when (a .op) _ (c .if4 .taken)))
+row-requires-4 : tie.Need-row-requires-4
+row-requires-4 c κs = search needs
 
-receive-time-requires : tie.Need-receive-time-requires
-receive-time-requires c κs = search needs
+row-requires-5 : tie.Need-row-requires-5
+row-requires-5 c κs = search needs
 
-returns-5 : tie.Need-returns-5
-unfolding operationRows neitherPart withItself noPartner tooManyWords badTime
-returns-5 c =
-    let a = c .before .before .before .before .before .before .before .before .before .before .before .before .before .before .before .before .before .args in
-    let has-receive-result = c .before .before .before .before .before .before .before .before .before .before .before .before .before .before .before .has-receive .ensures in
-    λ t e. sym (first-later _ _ (neither-when (a .op) _ _ has-receive-result (c .before .before .before .before .before .before .before .before .before .before .before .before .before .if1 .left)) ∙ first-later _ _ (itself-when (a .op) _ (a .x) _ (c .before .before .before .before .before .before .before .before .before .before .closed-on .ensures) (c .before .before .before .before .before .before .before .before .before .if2 .left)) ∙ first-later _ _ (partner-when (a .op) _ t (a .n) e _ (c .before .before .before .before .before .before .before .before .closed-beyond .ensures) (c .before .before .before .before .before .before .before .if3 .left)) ∙ first-later _ _ (words-when (a .op) _ (c .before .before .before .before .if4 .left)) ∙ first-here _ _ (time-when (a .op) _ _ _ has-receive-result (c .before .receive-time .ensures) (c .if5 .taken)))
+first-requires : tie.Need-first-requires
+first-requires c κs = search needs
 
-returns-6 : tie.Need-returns-6
+first-requires-2 : tie.Need-first-requires-2
+first-requires-2 c κs = search needs
+
+first-requires-3 : tie.Need-first-requires-3
+first-requires-3 c κs = search needs
+
+first-requires-4 : tie.Need-first-requires-4
+first-requires-4 c κs = search needs
+
+returns : tie.Need-returns
 unfolding operationRows neitherPart withItself noPartner tooManyWords badTime
-returns-6 c =
-    let a = c .before .before .before .before .before .before .before .before .before .before .before .before .before .before .before .before .before .args in
-    let has-receive-result = c .before .before .before .before .before .before .before .before .before .before .before .before .before .before .before .has-receive .ensures in
-    λ t e. sym (first-later _ _ (neither-when (a .op) _ _ has-receive-result (c .before .before .before .before .before .before .before .before .before .before .before .before .before .if1 .left)) ∙ first-later _ _ (itself-when (a .op) _ (a .x) _ (c .before .before .before .before .before .before .before .before .before .before .closed-on .ensures) (c .before .before .before .before .before .before .before .before .before .if2 .left)) ∙ first-later _ _ (partner-when (a .op) _ t (a .n) e _ (c .before .before .before .before .before .before .before .before .closed-beyond .ensures) (c .before .before .before .before .before .before .before .if3 .left)) ∙ first-later _ _ (words-when (a .op) _ (c .before .before .before .before .if4 .left)) ∙ first-later _ _ (time-when (a .op) _ _ _ has-receive-result (c .before .receive-time .ensures) (c .if5 .left)) ∙ first-none)
+returns c =
+    let a = c .before .before .before .before .before .before .before .before .before .before .before .before .before .before .before .before .before .before .before .before .before .args in
+    let has-receive-result = c .before .before .before .before .before .before .before .before .before .before .before .before .before .before .before .before .before .before .before .has-receive .ensures in
+    λ t e.
+    let o = a .op in
+    c .first4 .ensures ∙ first-joined (neitherPart o ∷ []) _ _ _ refl (c .before .before .before .before .before .before .before .before .before .before .before .before .before .before .before .before .row .ensures ∙ row-as 6 _ _ (ap (λ (b : Bool). not (o .send .present || b)) has-receive-result))
+    (c .before .first3 .ensures ∙ first-joined (withItself (a .x) o ∷ []) _ _ _ refl (c .before .before .before .before .before .before .before .before .before .before .before .before .row2 .ensures ∙ row-as 7 _ _ (ap (λ (b : Bool). o .send .present && eqb (o .send .target) (a .x) || b) (c .before .before .before .before .before .before .before .before .before .before .before .before .before .closed-on .ensures)))
+    (c .before .before .first2 .ensures ∙ first-joined (noPartner t o ∷ []) _ _ _ refl (c .before .before .before .before .before .before .before .before .before .before .row3 .ensures ∙ row-as 8 _ _ (c .before .before .before .before .before .before .before .before .before .before .before .closed-beyond .ensures ∙ ap (λ (k : ℕ). closedBeyond k (o .receive)) (sym e)))
+    (c .before .before .before .first .ensures ∙ first-joined (tooManyWords o ∷ []) (badTime o ∷ []) _ _ refl (c .before .before .before .before .before .before .before .row4 .ensures) (c .before .before .before .before .row5 .ensures ∙ row-as 10 _ _ (time-row o _ _ has-receive-result (c .before .before .before .before .before .before .before .before .before .before .before .before .before .before .before .before .before .before .receive-time .ensures))))))
 
 pub operation-refusal-spec : {M : Type 1} → statement M
 operation-refusal-spec =
     tie.close
     (tie.spec
     has-receive-requires
-    returns
-    closed-on-requires
-    returns-2
-    closed-beyond-requires
-    returns-3
-    returns-4
     receive-time-requires
-    returns-5
-    returns-6)
+    row-requires
+    closed-on-requires
+    row-requires-2
+    closed-beyond-requires
+    row-requires-3
+    row-requires-4
+    row-requires-5
+    first-requires
+    first-requires-2
+    first-requires-3
+    first-requires-4
+    returns)

@@ -1,29 +1,36 @@
-use mathlib.Core.Bool.{Bool, not}
-use mathlib.Core.Path.{sym, _∙_, ap}
-use Prim.Native.Nat.{_≤_, _<_, _*_}
-use native.Mathlib.Omega.{arith}
+use mathlib.Core.List.{[], _∷_}
+use mathlib.Core.Path.{refl, sym, ap, _∙_}
+use Prim.Native.Nat.{ℕ, _*_}
 use borrow.Author.Needs.{needs}
-use borrow.Author.Tests.{le-leb, lt-leb, eq-eqb, ne-eqb}
-use Rattle.model.specs.Refusals.{noThread, badLength}
-use Rattle.laws.proofs.Rows.{first-none, first-here, first-later}
-use Rattle.refusals.specs.Rows.{placeRows}
+use Rattle.model.specs.Refusals.{firstRefusal, noThread, badLength, placeRows}
+use Rattle.refusals.proofs.Laws.{first-joined}
 use Rattle.refusals.proofs.place_refusal.Statement.{statement}
 use Rattle.refusals.proofs.place_refusal.Tie as tie
 
+number-refusal-requires : tie.Need-number-refusal-requires
+number-refusal-requires c κs = search needs
+
+mul-length-refusal : tie.Need-mul-length-refusal
+mul-length-refusal c = search needs
+
+length-refusal-requires : tie.Need-length-refusal-requires
+length-refusal-requires c κs = search needs
+
+first-requires : tie.Need-first-requires
+first-requires c κs = search needs
+
 returns : tie.Need-returns
-unfolding placeRows noThread badLength
-returns c = λ t e. let h : t .n ≤ c .before .args .x = omega arith in sym (first-here _ _ (le-leb _ _ h))
-
-mul-expected : tie.Need-mul-expected
-mul-expected c = search needs
-
-returns-2 : tie.Need-returns-2
-unfolding placeRows noThread badLength
-returns-2 c = λ t e. let h : c .before .before .args .x < t .n = omega arith in sym (first-later _ _ (lt-leb _ _ h) ∙ first-here _ _ (ap (λ (b : Bool). not b) (ne-eqb _ _ (λ i. c .if2 .taken (i ∙ ap (λ k. 8 * k) e)))))
-
-returns-3 : tie.Need-returns-3
-unfolding placeRows noThread badLength
-returns-3 c = λ t e. let h : c .before .before .args .x < t .n = omega arith in sym (first-later _ _ (lt-leb _ _ h) ∙ first-later _ _ (ap (λ (b : Bool). not b) (eq-eqb _ _ (c .if2 .left ∙ ap (λ k. 8 * k) (sym e)))) ∙ first-none)
+unfolding placeRows noThread
+returns c =
+    let a = c .before .before .before .args in
+    λ t e. c .first .ensures ∙ first-joined (noThread t (a .x) ∷ []) (badLength (8 * t .n) (a .words) ∷ []) _ _ refl (c .before .before .number-refusal .ensures t e) (c .before .length-refusal .ensures ∙ ap (λ (k : ℕ). firstRefusal (badLength (8 * k) (a .words) ∷ [])) (sym e))
 
 pub place-refusal-spec : {M : Type 1} → statement M
-place-refusal-spec = tie.close (tie.spec returns mul-expected returns-2 returns-3)
+place-refusal-spec =
+    tie.close
+    (tie.spec
+    number-refusal-requires
+    mul-length-refusal
+    length-refusal-requires
+    first-requires
+    returns)

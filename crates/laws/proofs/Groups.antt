@@ -1,0 +1,103 @@
+-- The number by which a call is refused, group of rows by group, and what is known where a group refuses nothing.
+use mathlib.Core.Path.{_≡_, refl, sym, _∙_, ap}
+use mathlib.Core.Logic.{_≢_}
+use mathlib.Core.Bool.{true, not}
+use mathlib.Core.List.{[], _∷_}
+use Prim.Native.Nat.{ℕ, _*_, _≤_, _<_}
+use lib.ListN.{length}
+use lib.Dec.{eqb}
+use borrow.Author.Tests.{leb-false, lt-leb, eqb-true, eq-eqb, not-false}
+use Rattle.model.specs.declared.Operation.{Operation}
+use Rattle.model.specs.declared.Table.{Table}
+use Rattle.model.specs.WellFormed.{wellFormed}
+use Rattle.model.specs.Calls.{Call, begin, State}
+use Rattle.model.specs.Refusals.{firstRefusal, badSize, notWellFormed, noThread, badLength, tableRows, placeRows, beginRows, laterRows, rowsOf, refusal, reportRefusal}
+use Rattle.model.proofs.Laws.{_and_}
+use Rattle.model.proofs.Numbers.{size-read}
+use Rattle.model.proofs.Tested.{well-formed-told}
+use Rattle.laws.proofs.Rows.{NoneHolds, numbered, none-holds, rows-passed, group-refuses, group-passes}
+
+-- ---- the rows on the table
+-- they have numbers
+table-numbered : (t : Table) → numbered (tableRows t) ≡ true
+unfolding tableRows badSize notWellFormed
+table-numbered t = refl
+
+module _ (t : Table) where
+  -- a table on which no row holds is well-formed
+  pub table-formed : (f : ℕ) → f ≡ firstRefusal (tableRows t) → f ≡ 0 → wellFormed t ≡ true
+  unfolding tableRows badSize notWellFormed
+  table-formed f rows z = not-false (wellFormed t) (none-holds (tableRows t) refl (sym rows ∙ z) .1 .0)
+
+  -- and has at most 32 threads
+  pub table-few : (f : ℕ) → f ≡ firstRefusal (tableRows t) → f ≡ 0 → t .n ≤ 32
+  table-few f rows z = size-read (t .n) (well-formed-told t (table-formed f rows z) .size) .1
+
+  -- on a well-formed table none holds
+  formed-rows : wellFormed t ≡ true → NoneHolds (tableRows t)
+  unfolding tableRows badSize notWellFormed
+  formed-rows formed = ap not (well-formed-told t formed .size) and ap not formed and tt
+
+-- ---- every call
+module _ (c : Call) (s : State) where
+  -- a call is refused by the first row on the table that holds
+  pub table-number : (f : ℕ) → f ≡ firstRefusal (tableRows (s .table)) → f ≢ 0 → f ≡ refusal c s
+  unfolding refusal rowsOf
+  table-number f rows d = group-refuses (tableRows (s .table)) (laterRows c s) f rows d
+
+  -- where none holds, by the first of the others
+  pub later-number : (f : ℕ) → f ≡ firstRefusal (tableRows (s .table)) → f ≡ 0 → (g : ℕ) → g ≡ firstRefusal (laterRows c s) → g ≡ refusal c s
+  unfolding refusal rowsOf
+  later-number f rows z g e = group-passes (tableRows (s .table)) (laterRows c s) f g (table-numbered (s .table)) rows z e
+
+  -- so on a well-formed table the others alone decide
+  pub later-refusal : wellFormed (s .table) ≡ true → refusal c s ≡ firstRefusal (laterRows c s)
+  unfolding refusal rowsOf
+  later-refusal formed = rows-passed (tableRows (s .table)) (laterRows c s) (formed-rows (s .table) formed)
+
+-- ---- the rows on a thread's number and the length of a store
+-- they have numbers
+place-numbered : (t : Table) (x words : ℕ) → numbered (placeRows t x words) ≡ true
+unfolding placeRows noThread badLength
+place-numbered t x words = refl
+
+module _ (t : Table) (x words : ℕ) where
+  module _ (g : ℕ) (e : g ≡ firstRefusal (placeRows t x words)) (z : g ≡ 0) where
+    -- where none holds, the thread is in the table
+    pub place-below : x < t .n
+    unfolding placeRows noThread badLength
+    place-below = leb-false (t .n) x (none-holds (placeRows t x words) refl (sym e ∙ z) .0)
+
+    -- and the store has eight words for each thread
+    pub place-store : words ≡ 8 * t .n
+    unfolding placeRows noThread badLength
+    place-store = eqb-true words (8 * t .n) (not-false (eqb words (8 * t .n)) (none-holds (placeRows t x words) refl (sym e ∙ z) .1 .0))
+
+  -- of a thread of the table, and a store with eight words for each thread, none holds
+  pub place-passed : x < t .n → words ≡ 8 * t .n → NoneHolds (placeRows t x words)
+  unfolding placeRows noThread badLength
+  place-passed below fit = lt-leb (t .n) x below and ap not (eq-eqb words (8 * t .n) fit) and tt
+
+-- ---- the rows of a begin
+module _ (x : ℕ) (o : Operation) (s : State) where
+  -- the rows on the place come first
+  pub place-before-begin : (g : ℕ) → g ≡ firstRefusal (placeRows (s .table) x (length (s .store))) → g ≢ 0 → g ≡ firstRefusal (laterRows (begin x o) s)
+  unfolding laterRows
+  place-before-begin g e d = group-refuses (placeRows (s .table) x (length (s .store))) (beginRows (s .table) x o) g e d
+
+  -- then those on the thread and the operation
+  pub begin-after-place : (f g : ℕ) → f ≡ firstRefusal (placeRows (s .table) x (length (s .store))) → f ≡ 0 → g ≡ firstRefusal (beginRows (s .table) x o) → g ≡ firstRefusal (laterRows (begin x o) s)
+  unfolding laterRows
+  begin-after-place f g e z h = group-passes (placeRows (s .table) x (length (s .store))) (beginRows (s .table) x o) f g (place-numbered (s .table) x (length (s .store))) e z h
+
+-- ---- the rows of a report
+module _ (t : Table) (records : ℕ) where
+  -- those on the table come first
+  pub report-table : (f : ℕ) → f ≡ firstRefusal (tableRows t) → f ≢ 0 → f ≡ reportRefusal t records
+  unfolding reportRefusal
+  report-table f rows d = group-refuses (tableRows t) (badLength (t .n) records ∷ []) f rows d
+
+  -- then the number of records
+  pub report-length : (f : ℕ) → f ≡ firstRefusal (tableRows t) → f ≡ 0 → (g : ℕ) → g ≡ firstRefusal (badLength (t .n) records ∷ []) → g ≡ reportRefusal t records
+  unfolding reportRefusal
+  report-length f rows z g e = group-passes (tableRows t) (badLength (t .n) records ∷ []) f g (table-numbered t) rows z e
