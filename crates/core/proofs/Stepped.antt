@@ -35,7 +35,8 @@ use Rattle.invariant.proofs.Keeps.{found-formed}
 use Rattle.actions.specs.declared.Changed.{Changed}
 use Rattle.actions.specs.Acted.{Acted, Waits}
 use Rattle.phases.specs.Fit.{foundAs, Fit, wordAdded, wordsAfter}
-use Rattle.phases.proofs.Decisions.{in-number, copy-word, copy-calls, copy-sends, words-kept, words-copied}
+use Rattle.laws.proofs.Decisions.{in-number, copy-word, copy-calls, copy-sends}
+use Rattle.phases.proofs.Settled.{words-kept, words-copied}
 use Rattle.core.specs.Places.{orOwn}
 use Rattle.core.proofs.Performed.{performed}
 

@@ -144,8 +144,8 @@ pub fn begin(table: Table, x: u8, op: Operation, store: &mut [u32]) -> Returned
     }
 }
 
-// The thread that a step of x reads and writes as the other one.
-fn other_or_own(o: u8, x: u8) -> u8
+// The thread that a step of x reads and writes as the other one: o, or x itself where there is no other.
+pub fn other_or_own(o: u8, x: u8) -> u8
     ensures { λ r. ⌜ r ≡ orOwn o x ⌝ }
 {
     if o == threads::NOBODY {

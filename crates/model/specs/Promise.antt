@@ -6,9 +6,8 @@ use lib.ListN.{length, take}
 use Rattle.model.specs.declared.Outcome.{Outcome}
 use Rattle.model.specs.declared.Table.{Table}
 use Rattle.model.specs.declared.Answer.{Answer}
-use Rattle.model.specs.declared.OutcomeAnswer.{OutcomeAnswer}
 use Rattle.model.specs.Lists.{upTo}
-use Rattle.model.specs.Answers.{accepted, Said, refused, replied, said, SaidOutcome, shown, saidOutcome}
+use Rattle.model.specs.Answers.{accepted, Said, refused, replied, said, SaidOutcome, shown}
 use Rattle.model.specs.Shared.{View}
 use Rattle.model.specs.Threads.{newTable, at, wordsAt}
 use Rattle.model.specs.Calls.{Call, State, acceptedReply, acceptedState}
@@ -58,11 +57,6 @@ outcomeAnswer s x = unless (outcomeRefusal s x) SaidOutcome.refused (shown (view
 -- "hands back the first `count` of them as a part of the store; refused, an empty part"
 unfoldable pub outcomeWords : State → ℕ → List ℕ
 outcomeWords s x = unless (outcomeRefusal s x) (λ g. []) (view s x .words)
-
--- what the outcome call promises of its answer and of the words that it hands back
-pub record OutcomePromise (s : State) (x : ℕ) (a : OutcomeAnswer) (words : List ℕ) : Type 0 where
-  pub answers : saidOutcome a ≡ outcomeAnswer s x
-  pub hands : words ≡ outcomeWords s x
 
 -- ---- report
 -- what the report call answers

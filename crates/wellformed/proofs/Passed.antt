@@ -20,7 +20,7 @@ use Rattle.model.proofs.Laws.{by, same?}
 use Rattle.formed.proofs.Own.{Own}
 use Rattle.formed.proofs.Facts.{target-other}
 use Rattle.formed.proofs.Formed.{of, owner, copiesTo, Formed}
-use Rattle.threadtests.specs.Alone.{targetOf}
+use Rattle.clauses.specs.Alone.{targetOf}
 use Rattle.wellformed.specs.Links.{numberAt, linkFits}
 use Rattle.wellformed.specs.Waiting.{Free, Entered}
 use Rattle.wellformed.proofs.Waits.{Waits, waits-none, waits-more, waits-free, waits-queues, queues-waits}

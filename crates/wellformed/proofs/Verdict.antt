@@ -11,8 +11,8 @@ use Rattle.model.proofs.Laws.{by}
 use Rattle.model.proofs.Numbers.{size-read, size-made}
 use Rattle.model.proofs.Tested.{well-formed-tested, well-formed-told}
 use Rattle.formed.proofs.Formed.{copiesTo, Formed, formed-grouped, formed-ungrouped}
-use Rattle.threadtests.specs.Alone.{ownFits}
-use Rattle.threadtests.proofs.Alone.{own-tested}
+use Rattle.clauses.specs.Alone.{ownFits}
+use Rattle.clauses.proofs.Alone.{own-tested}
 use Rattle.wellformed.specs.Links.{numberAt, linkFits}
 use Rattle.wellformed.specs.Waiting.{Free}
 use Rattle.wellformed.proofs.Passed.{Passed, next-free, passed-formed, formed-passed}

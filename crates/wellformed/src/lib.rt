@@ -129,10 +129,10 @@ pub fn well_formed(table: Table) -> bool
     while x < n {
         let i = x as usize;
         let h = table.threads[i];
-        if !threadtests::thread_alone(n, x, h) {
+        if !clauses::thread_alone(n, x, h) {
             return false;
         }
-        let to = threadtests::copies_to(h);
+        let to = clauses::copies_to(h);
         if to < n {
             let j = to as usize;
             let receiver = table.threads[j];
@@ -143,9 +143,9 @@ pub fn well_formed(table: Table) -> bool
         if !enter_senders(n, x, h, &mut waits) {
             return false;
         }
-        targets[i] = threadtests::target_of(h);
+        targets[i] = clauses::target_of(h);
         owners[i] = h.owner;
-        held[i] = threadtests::lock_held(h);
+        held[i] = clauses::lock_held(h);
         x += 1;
     }
     links_fit(n, &waits, &targets, &owners, &held)

@@ -8,7 +8,7 @@ ghost use Rattle.model.specs.Threads.{wordsAt, zeroed};
 const WORDS: usize = 8;
 
 // Zero in every word of a slice.
-pub fn zero_words(words: &mut [u32])
+fn zero_words(words: &mut [u32])
     ensures { λ _. ⌜ now (words .exit) ≡ replicate (length (now (words .entry))) 0 ⌝ }
 {
     let mut i: usize = 0;

@@ -1,6 +1,7 @@
 use mathlib.Core.Path.{sym, _∙_}
 use borrow.Author.Needs.{needs}
-use Rattle.phases.proofs.Decisions.{settled, check-cancelled, check-copies, check-late, check-releases}
+use Rattle.laws.proofs.Decisions.{check-cancelled, check-copies, check-late, check-releases}
+use Rattle.phases.proofs.Settled.{settled}
 use Rattle.phases.proofs.in_check.Statement.{statement}
 use Rattle.phases.proofs.in_check.Tie as tie
 

@@ -1,7 +1,8 @@
 use mathlib.Core.Path.{refl}
 use borrow.Author.Needs.{needs}
 use Rattle.model.specs.Answers.{wants}
-use Rattle.phases.proofs.Decisions.{settled, lock-takes, lock-wants}
+use Rattle.laws.proofs.Decisions.{lock-takes, lock-wants}
+use Rattle.phases.proofs.Settled.{settled}
 use Rattle.phases.proofs.in_lock.Statement.{statement}
 use Rattle.phases.proofs.in_lock.Tie as tie
 

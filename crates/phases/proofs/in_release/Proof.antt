@@ -1,7 +1,8 @@
 use mathlib.Core.Path.{refl}
 use borrow.Author.Needs.{needs}
 use Rattle.model.specs.Threads.{idle, sleep, look}
-use Rattle.phases.proofs.Decisions.{settled, release-sleeps, release-looks, release-ends}
+use Rattle.laws.proofs.Decisions.{release-sleeps, release-looks, release-ends}
+use Rattle.phases.proofs.Settled.{settled}
 use Rattle.phases.proofs.in_release.Statement.{statement}
 use Rattle.phases.proofs.in_release.Tie as tie
 

@@ -2,7 +2,8 @@ use mathlib.Core.Path.{refl}
 use borrow.Author.Needs.{needs}
 use borrow.Author.Tests.{not-true, not-false}
 use Rattle.model.specs.Answers.{asleep}
-use Rattle.phases.proofs.Decisions.{settled, sleep-woken, sleep-marked, sleep-late, sleep-stays}
+use Rattle.laws.proofs.Decisions.{sleep-woken, sleep-marked, sleep-late, sleep-stays}
+use Rattle.phases.proofs.Settled.{settled}
 use Rattle.phases.proofs.in_sleep.Statement.{statement}
 use Rattle.phases.proofs.in_sleep.Tie as tie
 

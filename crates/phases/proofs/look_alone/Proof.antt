@@ -1,7 +1,8 @@
 use mathlib.Core.Path.{refl}
 use borrow.Author.Needs.{needs}
 use Rattle.model.specs.Answers.{asleep}
-use Rattle.phases.proofs.Decisions.{settled, look-late, look-waits}
+use Rattle.laws.proofs.Decisions.{look-late, look-waits}
+use Rattle.phases.proofs.Settled.{settled}
 use Rattle.phases.proofs.look_alone.Statement.{statement}
 use Rattle.phases.proofs.look_alone.Tie as tie
 

@@ -2,7 +2,8 @@ use mathlib.Core.Path.{refl}
 use borrow.Author.Needs.{needs}
 use borrow.Author.Tests.{not-true, not-false}
 use Rattle.model.specs.Answers.{asleep, wants}
-use Rattle.phases.proofs.Decisions.{settled, look-found-awake, look-found-wants, look-takes}
+use Rattle.laws.proofs.Decisions.{look-found-awake, look-found-wants, look-takes}
+use Rattle.phases.proofs.Settled.{settled}
 use Rattle.phases.proofs.look_at_sender.Statement.{statement}
 use Rattle.phases.proofs.look_at_sender.Tie as tie
 

@@ -9,7 +9,7 @@ use Rattle.model.specs.Threads.{at, ready}
 use Rattle.model.specs.WellFormed.{Shaped}
 use Rattle.formed.proofs.Own.{Own}
 use Rattle.formed.proofs.Facts.{queue-small}
-use Rattle.threadtests.proofs.Alone.{own-told}
+use Rattle.clauses.proofs.Alone.{own-told}
 use Rattle.formed.proofs.Shape.{shaped}
 use Rattle.wellformed.proofs.Passed.{Passed, passed-none, passed-more}
 use Rattle.wellformed.proofs.Verdict.{size-refused, alone-refused, copy-refused, queue-refused, links-verdict}

@@ -1,6 +1,6 @@
-use Rattle.threadtests.specs.Alone.{targetOf}
-use Rattle.threadtests.proofs.target_of.Statement.{statement}
-use Rattle.threadtests.proofs.target_of.Tie as tie
+use Rattle.clauses.specs.Alone.{targetOf}
+use Rattle.clauses.proofs.target_of.Statement.{statement}
+use Rattle.clauses.proofs.target_of.Tie as tie
 
 returns : tie.Need-returns
 unfolding targetOf

@@ -6,7 +6,7 @@ use lib.ListN.{length}
 use Rattle.model.specs.declared.Thread.{Thread}
 use Rattle.model.proofs.Laws.{_and_, all-of-read, all-of-made}
 use Rattle.formed.proofs.Own.{Own}
-use Rattle.threadtests.specs.Alone.{ownFits}
+use Rattle.clauses.specs.Alone.{ownFits}
 
 module _ (n x : ℕ) (h : Thread) where
   -- a thread that passes the test, with its queue's places, is well-formed by itself

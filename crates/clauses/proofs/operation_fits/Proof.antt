@@ -2,10 +2,10 @@ use borrow.Author.Needs.{needs}
 use borrow.Author.Tests.{not-true, not-false}
 use Rattle.model.specs.Lists.{implies}
 use Rattle.model.specs.Shared.{tickCount, isLeft}
-use Rattle.formed.proofs.Own.{operationFits}
 use Rattle.laws.proofs.Tests.{all-joined}
-use Rattle.threadtests.proofs.operation_fits.Statement.{statement}
-use Rattle.threadtests.proofs.operation_fits.Tie as tie
+use Rattle.formed.proofs.Own.{operationFits}
+use Rattle.clauses.proofs.operation_fits.Statement.{statement}
+use Rattle.clauses.proofs.operation_fits.Tie as tie
 
 returns : tie.Need-returns
 unfolding operationFits implies

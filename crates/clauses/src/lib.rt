@@ -6,7 +6,7 @@ ghost use Rattle.model.specs.WellFormed.{isCode, sendInRange, receiveInRange};
 ghost use Rattle.formed.proofs.Flags.{flagsFit};
 ghost use Rattle.formed.proofs.Own.{outcomeFits, operationFits, phaseFits, queueFits};
 ghost use Rattle.formed.proofs.Formed.{copiesTo};
-ghost use Rattle.threadtests.specs.Alone.{ownFits, targetOf};
+ghost use Rattle.clauses.specs.Alone.{ownFits, targetOf};
 use model::Flags;
 use model::Operation;
 use model::Outcome;
@@ -40,7 +40,9 @@ const MOST_TICKS: u16 = 20000;
 fn is_code(code: i32) -> bool
     ensures { λ r. ⌜ r ≡ isCode codes code ⌝ }
 {
-    ((DONE <= code) & (code <= NEVER_BEGUN)) | ((SEND_CANCELLED <= code) & (code <= NO_RECEIVER))
+    let failure = threads::is_failure(code);
+    (!failure & (code <= NEVER_BEGUN))
+        | (failure & (SEND_CANCELLED <= code) & (code <= NO_RECEIVER))
 }
 
 // The outcome's numbers are in range; its code is 1 exactly with ipc; source and count are bare unless it is 0.

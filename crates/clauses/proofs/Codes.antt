@@ -1,8 +1,8 @@
 -- Codes as the code tests them: by their bits and by their bounds.
 use mathlib.Core.Path.{_≡_, refl, sym, _∙_}
-use mathlib.Core.Bool.{Bool, _&&_, _||_, Bool·beq}
+use mathlib.Core.Bool.{Bool, not, _&&_, _||_, Bool·beq}
 use native.Mathlib.Omega.{arith}
-use lib.Dec.{leb·zero, eqb, ltb}
+use lib.Dec.{leb·suc-zero, eqb, ltb}
 use lib.IntN.{ℤ, pos, negsuc}
 use lib.Signed.{leZ}
 use mir.Syntax.{w32}
@@ -10,7 +10,7 @@ use mir.Val.{SFits, ofZ}
 use mir.Facts.{toZ-ofZ}
 use borrow.Author.Tests.{ltb-true, ltb-false, lt-leb, eqb-true, eq-eqb, ne-eqb}
 use Rattle.model.specs.Lists.{allBelow}
-use Rattle.model.specs.Shared.{codes, sameCode}
+use Rattle.model.specs.Shared.{codes, isFailure, sameCode}
 use Rattle.model.specs.WellFormed.{isCode}
 use Rattle.model.proofs.Laws.{by, alike-read, all-below-read}
 use Rattle.laws.proofs.Codes.{code-itself, code-is}
@@ -23,16 +23,16 @@ same-bits a z fa fz = same-test _ _
     let j : z ≡ a = sym (toZ-ofZ fz) ∙ rw i (toZ-ofZ fa) in rw j (code-itself a))
     (λ e. rw (code-is a z e) (eq-eqb (ofZ w32 z) _ refl))
 
--- a code is 0 to 2, or -6 to -2
+-- a code is no failure and at most 2, or a failure from -6 to -2
 abbrev pub inBounds : ℤ → Bool
-inBounds z = leZ (pos 0) z && leZ z (pos 2) || leZ (negsuc 5) z && leZ z (negsuc 1)
+inBounds z = not (isFailure z) && leZ z (pos 2) || (isFailure z && leZ (negsuc 5) z) && leZ z (negsuc 1)
 
 -- document 01's codes by their bounds
 pub code-bounds : (z : ℤ) → inBounds z ≡ isCode codes z
-unfolding isCode allBelow
+unfolding isCode isFailure allBelow
 code-bounds (pos k) = by (ltb k 3)
     (λ e. alike-read _ _ (all-below-read 3 (λ k. Bool·beq (inBounds (pos k)) (isCode codes (pos k))) refl k (ltb-true k 3 e)))
-    (λ e. let l = ltb-false k 3 e in rw (leb·zero k, lt-leb k 2 (omega arith), ne-eqb 0 k (omega arith), ne-eqb 1 k (omega arith), ne-eqb 2 k (omega arith)) refl)
+    (λ e. let l = ltb-false k 3 e in rw (leb·suc-zero k, lt-leb k 2 (omega arith), ne-eqb 0 k (omega arith), ne-eqb 1 k (omega arith), ne-eqb 2 k (omega arith)) refl)
 code-bounds (negsuc k) = by (ltb k 6)
     (λ e. alike-read _ _ (all-below-read 6 (λ k. Bool·beq (inBounds (negsuc k)) (isCode codes (negsuc k))) refl k (ltb-true k 6 e)))
     (λ e. let l = ltb-false k 6 e in

@@ -1,14 +1,14 @@
-use borrow.Author.Needs.{needs}
 use lib.IntN.{pos}
+use mir.Facts.{toZ-ofZ}
 use mir.Syntax.{w32}
 use mir.Val.{SFits}
-use mir.Facts.{toZ-ofZ}
+use borrow.Author.Needs.{needs}
 use Rattle.model.specs.WellFormed.{nobodyOrBelow}
-use Rattle.formed.proofs.Own.{outcomeFits}
 use Rattle.laws.proofs.Tests.{all-joined}
-use Rattle.threadtests.proofs.Codes.{same-bits}
-use Rattle.threadtests.proofs.outcome_fits.Statement.{statement}
-use Rattle.threadtests.proofs.outcome_fits.Tie as tie
+use Rattle.formed.proofs.Own.{outcomeFits}
+use Rattle.clauses.proofs.Codes.{same-bits}
+use Rattle.clauses.proofs.outcome_fits.Statement.{statement}
+use Rattle.clauses.proofs.outcome_fits.Tie as tie
 
 is-code-requires : tie.Need-is-code-requires
 is-code-requires c κs = search needs

@@ -2,8 +2,8 @@ use borrow.Author.Needs.{needs}
 use Rattle.model.specs.Shared.{isTimeCode}
 use Rattle.model.specs.WellFormed.{receiveInRange}
 use Rattle.laws.proofs.Tests.{all-joined}
-use Rattle.threadtests.proofs.receive_in_range.Statement.{statement}
-use Rattle.threadtests.proofs.receive_in_range.Tie as tie
+use Rattle.clauses.proofs.receive_in_range.Statement.{statement}
+use Rattle.clauses.proofs.receive_in_range.Tie as tie
 
 enum-told : tie.Need-enum-told
 enum-told c = search needs

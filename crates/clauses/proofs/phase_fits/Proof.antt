@@ -1,10 +1,10 @@
 use mathlib.Core.Bool.{or-false}
 use Rattle.model.specs.Lists.{implies}
+use Rattle.laws.proofs.Tests.{all-joined}
 use Rattle.formed.proofs.Flags.{isOneOf}
 use Rattle.formed.proofs.Own.{phaseFits}
-use Rattle.laws.proofs.Tests.{all-joined}
-use Rattle.threadtests.proofs.phase_fits.Statement.{statement}
-use Rattle.threadtests.proofs.phase_fits.Tie as tie
+use Rattle.clauses.proofs.phase_fits.Statement.{statement}
+use Rattle.clauses.proofs.phase_fits.Tie as tie
 
 returns : tie.Need-returns
 unfolding phaseFits isOneOf implies

@@ -1,9 +1,8 @@
--- On which action a phase settles, by the tests in the order of the code.
-use mathlib.Core.Path.{_≡_, refl, sym, _∙_, ap, subst}
+-- On which action a phase settles, by the tests in the order of document 01; phases by their numbers.
+use mathlib.Core.Path.{_≡_, refl, _∙_, ap}
 use mathlib.Core.Logic.{_≢_}
 use mathlib.Core.Bool.{true, false}
 use mathlib.Core.Option.{Option, none, some}
-use mathlib.Core.List.{List}
 use Prim.Native.Nat.{ℕ, suc, _≤_, _<_}
 use native.Mathlib.Omega.{arith}
 use lib.ListN.{List·getD-eq-default}
@@ -12,36 +11,15 @@ use Rattle.model.specs.declared.Thread.{Thread}
 use Rattle.model.specs.Answers.{wants, asleep}
 use Rattle.model.specs.Shared.{receiveTimeOver, sendTimeOver, receiveCancelled, sendCancelled, nobody, hasReceive}
 use Rattle.model.specs.Threads.{Phase, idle, lock, check, copy, release, sleep, look, unknown, phases, phaseOf, phaseNumber, lockFree, findSender, ready}
-use Rattle.model.specs.Step.{Action, stay, takeLock, abortSend, startCopy, toRelease, copyWord, finishCall, finishSend, freeTarget, retry, toIdle, abortReceive, takeSender, other, lookAt, decideIn}
+use Rattle.model.specs.Step.{stay, takeLock, abortSend, startCopy, toRelease, copyWord, finishCall, finishSend, freeTarget, retry, toIdle, abortReceive, takeSender, other, lookAt, decideIn}
 use Rattle.model.proofs.Laws.{same?}
 use Rattle.model.proofs.Numbers.{phase-read}
 use Rattle.laws.proofs.Decided.{other-in}
 use Rattle.laws.proofs.Lists.{cond-true, cond-false}
-use Rattle.actions.specs.declared.Changed.{Changed}
-use Rattle.actions.specs.Acted.{Acted}
-use Rattle.phases.specs.Fit.{wordAdded, wordsAfter}
-
--- a step that has done what it settled on
-pub settled : {a b : Action} (x : ℕ) (h r : Thread) (c : Changed) → a ≡ b → Acted b x h r c → Acted a x h r c
-settled x h r c e = subst (λ (a : Action). Acted a x h r c) (sym e)
 
 -- a thread with the number of a phase is in it
 pub in-number : (p : Phase) (k : ℕ) → k ≡ phaseNumber p → phaseOf k ≡ p
 in-number p k e = ap phaseOf e ∙ phase-read p
-
--- a step that has done what its phase settles on
-pub settled-in : (p : Phase) (x : ℕ) (h r : Thread) (c : Changed) → h .phase ≡ phaseNumber p → Acted (decideIn p x h r) x h r c → Acted (decideIn (phaseOf (h .phase)) x h r) x h r c
-settled-in p x h r c e = settled x h r c (ap (λ (q : Phase). decideIn q x h r) (in-number p (h .phase) e))
-
--- only a thread in copy changes the other's words
-pub words-kept : (h : Thread) (words : List ℕ) → h .phase ≢ phaseNumber copy → words ≡ wordsAfter h words
-unfolding wordsAfter
-words-kept h words d = sym (cond-false _ _ _ (ne-eqb _ _ d))
-
--- and it adds a word, if one remains
-pub words-copied : (h : Thread) (words : List ℕ) → h .phase ≡ phaseNumber copy → wordAdded h words ≡ wordsAfter h words
-unfolding wordsAfter
-words-copied h words e = sym (cond-true _ _ _ (eq-eqb _ _ e))
 
 -- a number past the last phase is none
 pub unknown-phase : (k : ℕ) → 9 ≤ k → phaseOf k ≡ unknown

@@ -1,8 +1,8 @@
 use borrow.Author.Needs.{needs}
-use Rattle.threadtests.specs.Alone.{ownFits}
 use Rattle.laws.proofs.Tests.{all-joined}
-use Rattle.threadtests.proofs.thread_alone.Statement.{statement}
-use Rattle.threadtests.proofs.thread_alone.Tie as tie
+use Rattle.clauses.specs.Alone.{ownFits}
+use Rattle.clauses.proofs.thread_alone.Statement.{statement}
+use Rattle.clauses.proofs.thread_alone.Tie as tie
 
 has-receive-requires : tie.Need-has-receive-requires
 has-receive-requires c κs = search needs

@@ -1,9 +1,9 @@
 use mathlib.Core.Bool.{or-false, or-assoc}
 use Rattle.model.specs.Lists.{implies}
-use Rattle.formed.proofs.Flags.{isOneOf, flagsFit}
 use Rattle.laws.proofs.Tests.{all-joined}
-use Rattle.threadtests.proofs.flags_fit.Statement.{statement}
-use Rattle.threadtests.proofs.flags_fit.Tie as tie
+use Rattle.formed.proofs.Flags.{isOneOf, flagsFit}
+use Rattle.clauses.proofs.flags_fit.Statement.{statement}
+use Rattle.clauses.proofs.flags_fit.Tie as tie
 
 returns : tie.Need-returns
 unfolding flagsFit isOneOf implies

@@ -1,8 +1,8 @@
 use borrow.Author.Tests.{eq-eqb, ne-eqb}
 use Rattle.formed.proofs.Flags.{isOneOf}
 use Rattle.formed.proofs.Formed.{copiesTo}
-use Rattle.threadtests.proofs.copies_to.Statement.{statement}
-use Rattle.threadtests.proofs.copies_to.Tie as tie
+use Rattle.clauses.proofs.copies_to.Statement.{statement}
+use Rattle.clauses.proofs.copies_to.Tie as tie
 
 returns : tie.Need-returns
 unfolding copiesTo isOneOf

@@ -1,9 +1,9 @@
 use mathlib.Core.Path.{sym, _∙_}
 use Rattle.model.specs.Threads.{lockHeld}
 use Rattle.laws.proofs.Lists.{cond-true, cond-false}
-use Rattle.threadtests.proofs.Held.{lock-held-by}
-use Rattle.threadtests.proofs.lock_held.Statement.{statement}
-use Rattle.threadtests.proofs.lock_held.Tie as tie
+use Rattle.clauses.proofs.Held.{lock-held-by}
+use Rattle.clauses.proofs.lock_held.Statement.{statement}
+use Rattle.clauses.proofs.lock_held.Tie as tie
 
 returns : tie.Need-returns
 unfolding lockHeld

@@ -1,8 +1,8 @@
 use Rattle.model.specs.WellFormed.{nobodyOrBelow}
-use Rattle.formed.proofs.Own.{queueFits}
 use Rattle.laws.proofs.Tests.{all-joined}
-use Rattle.threadtests.proofs.queue_fits.Statement.{statement}
-use Rattle.threadtests.proofs.queue_fits.Tie as tie
+use Rattle.formed.proofs.Own.{queueFits}
+use Rattle.clauses.proofs.queue_fits.Statement.{statement}
+use Rattle.clauses.proofs.queue_fits.Tie as tie
 
 returns : tie.Need-returns
 unfolding queueFits nobodyOrBelow

@@ -2,8 +2,8 @@ use mathlib.Core.Bool.{and-true, and-assoc}
 use Rattle.model.specs.Lists.{implies, allOf}
 use Rattle.model.specs.Shared.{isTimeCode}
 use Rattle.model.specs.WellFormed.{sendInRange}
-use Rattle.threadtests.proofs.send_in_range.Statement.{statement}
-use Rattle.threadtests.proofs.send_in_range.Tie as tie
+use Rattle.clauses.proofs.send_in_range.Statement.{statement}
+use Rattle.clauses.proofs.send_in_range.Tie as tie
 
 returns : tie.Need-returns
 unfolding sendInRange isTimeCode implies allOf
