@@ -34,13 +34,15 @@ fn in_check(x: u8, own: Thread, other: Thread) -> Changed
     requires { ⌜ Waits x other ⌝ }
     ensures { λ r. ⌜ Acted (decideIn check x own other) x own other r ⌝ }
 {
+    let ready = threads::is_ready(other, x);
+    let late = own.left == 0;
     if own.flags.mark {
         return actions::abort_send(x, threads::SEND_CANCELLED, own, other);
     }
-    if threads::is_ready(other, x) {
+    if ready {
         return actions::start_copy(own, other);
     }
-    if own.left == 0 {
+    if late {
         return actions::abort_send(x, threads::SEND_TIME_OVER, own, other);
     }
     actions::go_to_release(own, other)

@@ -1,52 +1,45 @@
 use mathlib.Core.Path.{sym, _∙_}
 use borrow.Author.Needs.{needs}
+use borrow.Author.Tests.{eqb-true, eqb-false}
 use Rattle.laws.proofs.Decisions.{check-cancelled, check-copies, check-late, check-releases}
 use Rattle.phases.proofs.Settled.{settled}
 use Rattle.phases.proofs.in_check.Statement.{statement}
 use Rattle.phases.proofs.in_check.Tie as tie
 
+is-ready-requires : tie.Need-is-ready-requires
+is-ready-requires c κs = search needs
+
 abort-send-requires : tie.Need-abort-send-requires
 abort-send-requires c κs = search needs
 
 returns : tie.Need-returns
-returns c =
-    let a = c .before .before .args in
-    settled _ _ _ _ (check-cancelled (a .x) (a .own) (a .other) (c .before .if1 .taken)) (c .abort-send .ensures)
-
-is-ready-requires : tie.Need-is-ready-requires
-is-ready-requires c κs = search needs
+returns c = let a = c .before .before .before .before .args in settled _ _ _ _ (check-cancelled (a .x) (a .own) (a .other) (c .before .if1 .taken)) (c .abort-send .ensures)
 
 start-copy-requires : tie.Need-start-copy-requires
 start-copy-requires c κs = search needs
 
 returns-2 : tie.Need-returns-2
-returns-2 c =
-    let a = c .before .before .before .before .args in
-    settled _ _ _ _ (check-copies (a .x) (a .own) (a .other) (c .before .before .before .if1 .left) (sym (c .before .before .is-ready .ensures) ∙ c .before .if2 .taken)) (c .start-copy .ensures (a .x))
+returns-2 c = let a = c .before .before .before .before .before .args in settled _ _ _ _ (check-copies (a .x) (a .own) (a .other) (c .before .before .if1 .left) (sym (c .before .before .before .before .is-ready .ensures) ∙ c .before .if2 .taken)) (c .start-copy .ensures (a .x))
 
 abort-send-requires-2 : tie.Need-abort-send-requires-2
 abort-send-requires-2 c κs = search needs
 
 returns-3 : tie.Need-returns-3
-returns-3 c =
-    let a = c .before .before .before .before .before .before .args in
-    settled _ _ _ _ (check-late (a .x) (a .own) (a .other) (c .before .before .before .before .before .if1 .left) (sym (c .before .before .before .before .is-ready .ensures) ∙ c .before .before .before .if2 .left) (c .before .if3 .taken)) (c .abort-send2 .ensures)
+returns-3 c = let a = c .before .before .before .before .before .before .args in settled _ _ _ _ (check-late (a .x) (a .own) (a .other) (c .before .before .before .if1 .left) (sym (c .before .before .before .before .before .is-ready .ensures) ∙ c .before .before .if2 .left) (eqb-true _ _ (c .before .if3 .taken))) (c .abort-send2 .ensures)
 
 go-to-release-requires : tie.Need-go-to-release-requires
 go-to-release-requires c κs = search needs
 
 returns-4 : tie.Need-returns-4
-returns-4 c =
-    let a = c .before .before .before .before .before .before .args in
-    settled _ _ _ _ (check-releases (a .x) (a .own) (a .other) (c .before .before .before .before .before .if1 .left) (sym (c .before .before .before .before .is-ready .ensures) ∙ c .before .before .before .if2 .left) (c .before .if3 .left)) (c .go-to-release .ensures (a .x))
+returns-4 c = let a = c .before .before .before .before .before .before .args in settled _ _ _ _ (check-releases (a .x) (a .own) (a .other) (c .before .before .before .if1 .left) (sym (c .before .before .before .before .before .is-ready .ensures) ∙ c .before .before .if2 .left) (eqb-false _ _ (c .before .if3 .left))) (c .go-to-release .ensures (a .x))
 
 pub in-check-spec : {M : Type 1} → statement M
 in-check-spec =
     tie.close
     (tie.spec
+    is-ready-requires
     abort-send-requires
     returns
-    is-ready-requires
     start-copy-requires
     returns-2
     abort-send-requires-2
