@@ -1,0 +1,104 @@
+// Sizes of a table, numbers of threads, and lengths of stores and of slices of records.
+use attempts::lines::by;
+use attempts::lines::reports;
+use attempts::lines::show;
+use attempts::lines::storing;
+use attempts::print::number;
+use attempts::print::text;
+use model::Table;
+use samples::edits::with_outcome;
+use threads::DONE;
+use threads::NOBODY;
+
+// A table of n threads, of which thread 0 shows eight words.
+fn eight(n: u8) -> Table {
+    with_outcome(core::new_table(n), 0, DONE, NOBODY, 8)
+}
+
+// Prints the size of a table.
+fn size(n: u8) {
+    text(b"N ");
+    number(n);
+}
+
+// A new table of n threads.
+fn new(n: u8) {
+    size(n);
+    show(b"", core::new_table(n));
+}
+
+// Thread x of n.
+fn thread(n: u8, x: u8) {
+    size(n);
+    text(b", thread ");
+    number(x);
+    by(b"", eight(n), x, x);
+}
+
+// A store of so many words more or less than n threads have.
+fn store(n: u8, words: usize) {
+    size(n);
+    text(b", words ");
+    io::print_decimal(1, words as u64);
+    storing(b"", eight(n), 0, 0, words);
+}
+
+// A report into so many records.
+fn slice(n: u8, records: u8) {
+    size(n);
+    text(b", records ");
+    number(records);
+    reports(b"", eight(n), records as usize);
+}
+
+// Tables of no thread or more than 32, and threads that are not in the table.
+fn numbers() {
+    text(b"\nN 0 or above 32\n");
+    new(0);
+    new(33);
+    new(255);
+    text(b"\nThread N or more\n");
+    thread(1, 1);
+    thread(3, 3);
+    thread(3, 255);
+    thread(32, 32);
+    thread(32, 255);
+}
+
+// Stores of 8 times N words, and of other lengths.
+fn stores() {
+    text(b"\nStore of 8 times N words or not\n");
+    store(1, 0);
+    store(1, 7);
+    store(1, 8);
+    store(1, 9);
+    store(3, 0);
+    store(3, 23);
+    store(3, 24);
+    store(3, 25);
+    store(32, 255);
+    store(32, 256);
+    store(32, 257);
+}
+
+// Slices of N records, and of other lengths.
+fn slices() {
+    text(b"\nReport into N records or not\n");
+    slice(1, 0);
+    slice(1, 1);
+    slice(1, 2);
+    slice(3, 0);
+    slice(3, 2);
+    slice(3, 3);
+    slice(3, 4);
+    slice(32, 31);
+    slice(32, 32);
+    slice(32, 33);
+}
+
+// All sizes and lengths.
+pub fn lengths() {
+    numbers();
+    stores();
+    slices();
+}

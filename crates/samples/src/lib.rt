@@ -1,0 +1,7 @@
+// Tables that are made for tests, by begins and by setting one field of one thread, and whether two tables are the same. Those with a name are the
+// tables of model's proofs/Clauses.
+pub mod edits;
+pub mod operations;
+pub mod same;
+pub mod tables;
+pub mod wild;
