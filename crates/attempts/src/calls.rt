@@ -5,17 +5,17 @@ ghost use lib.ListN.{length};
 use crate::print;
 use crate::print::text;
 use crate::print::unless;
+use cases::same::WORD;
+use cases::same::blank;
+use cases::same::kept_records;
+use cases::same::kept_store;
+use cases::same::same_table;
 use libc::STDOUT_FILENO;
 use model::Answer;
 use model::Operation;
 use model::Outcome;
 use model::Returned;
 use model::Table;
-use samples::same::WORD;
-use samples::same::blank;
-use samples::same::kept_records;
-use samples::same::kept_store;
-use samples::same::same_table;
 
 // The words of the longest store, and the records of the longest slice: of one thread more than a table can have.
 const WORDS: usize = 264;

@@ -1,10 +1,10 @@
 // One line for the calls that are tried on the same arguments.
 use crate::calls;
 use crate::print::text;
+use cases::operations::open_for;
+use cases::operations::receive_only;
 use model::Operation;
 use model::Table;
-use samples::operations::open_for;
-use samples::operations::receive_only;
 
 // All calls: begin by a thread, the others of a thread, with a store and with records of these lengths.
 pub fn line(

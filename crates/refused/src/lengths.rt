@@ -5,8 +5,8 @@ use attempts::lines::show;
 use attempts::lines::storing;
 use attempts::print::number;
 use attempts::print::text;
+use cases::edits::with_outcome;
 use model::Table;
-use samples::edits::with_outcome;
 use threads::DONE;
 use threads::NOBODY;
 

@@ -9,9 +9,9 @@ use attempts::lines::show;
 use attempts::print::answer;
 use attempts::print::number;
 use attempts::print::text;
-use samples::edits::with_queue;
-use samples::tables::three;
-use samples::wild::wild;
+use cases::edits::with_queue;
+use cases::tables::three;
+use cases::wild::wild;
 
 // Tables of which no number means anything.
 fn wild_tables() {

@@ -3,20 +3,20 @@ use attempts::lines::begins;
 use attempts::lines::by;
 use attempts::lines::line;
 use attempts::print::text;
+use cases::operations::closed_for;
+use cases::operations::left_over;
+use cases::operations::open_for;
+use cases::operations::receive_only;
+use cases::operations::send_zeros;
+use cases::tables::copier;
+use cases::tables::locker;
+use cases::tables::receiver;
+use cases::tables::sender;
+use cases::tables::three;
+use cases::wild::wild;
 use model::Operation;
 use model::Receive;
 use model::Table;
-use samples::operations::closed_for;
-use samples::operations::left_over;
-use samples::operations::open_for;
-use samples::operations::receive_only;
-use samples::operations::send_zeros;
-use samples::tables::copier;
-use samples::tables::locker;
-use samples::tables::receiver;
-use samples::tables::sender;
-use samples::tables::three;
-use samples::wild::wild;
 
 // Thread 0 of a new table of three begins an operation.
 fn new_begins(name: &[u8], op: Operation) {

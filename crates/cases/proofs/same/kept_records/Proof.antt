@@ -1,7 +1,7 @@
 use Prim.Native.Nat.{_≤_, _-_}
 use borrow.Author.Needs.{needs}
-use Rattle.samples.proofs.same.kept_records.Statement.{statement}
-use Rattle.samples.proofs.same.kept_records.Tie as tie
+use Rattle.cases.proofs.same.kept_records.Statement.{statement}
+use Rattle.cases.proofs.same.kept_records.Tie as tie
 
 abbrev Inv-loop : tie.InvT-loop
 Inv-loop records i₀ i = i ≤ 33
