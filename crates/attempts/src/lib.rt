@@ -2,3 +2,4 @@
 pub mod calls;
 pub mod lines;
 pub mod print;
+pub mod same;

@@ -1,10 +1,11 @@
 // One line for the calls that are tried on the same arguments.
 use crate::calls;
 use crate::print::text;
-use cases::operations::open_for;
-use cases::operations::receive_only;
 use model::Operation;
+use model::Receive;
+use model::SendPart;
 use model::Table;
+use model::Wait;
 
 // All calls: begin by a thread, the others of a thread, with a store and with records of these lengths.
 pub fn line(
@@ -27,9 +28,29 @@ pub fn line(
     text(b"\n");
 }
 
+// An open receive that waits for ever.
+fn open_receive() -> Operation {
+    let send = SendPart {
+        present: false,
+        target: 0,
+        count: 0,
+        time: 0,
+        words: [0; 8],
+    };
+    let wait = Wait {
+        time: 15,
+        partner: 0,
+    };
+    let receive = Receive::Open(wait);
+    Operation {
+        send: send,
+        receive: receive,
+    }
+}
+
 // All calls, where the beginner begins an open receive, with a store of this length.
 pub fn storing(name: &[u8], table: Table, beginner: u8, x: u8, words: usize) {
-    let op = receive_only(open_for(15));
+    let op = open_receive();
     let records = table.n as usize;
     line(name, table, beginner, op, x, words, records);
 }

@@ -29,24 +29,25 @@ pub fn answer(answer: Answer) {
     }
 }
 
-// Prints a code of document 01 with its sign.
-fn code(code: i32) {
+// A code of document 01 without its sign.
+fn magnitude(code: i32) -> u8 {
     match code {
-        0 => text(b"0"),
-        1 => text(b"1"),
-        2 => text(b"2"),
-        -2 => text(b"-2"),
-        -3 => text(b"-3"),
-        -4 => text(b"-4"),
-        -5 => text(b"-5"),
-        -6 => text(b"-6"),
-        _ => text(b"no code"),
+        1 => 1,
+        2 => 2,
+        -2 => 2,
+        -3 => 3,
+        -4 => 4,
+        -5 => 5,
+        -6 => 6,
+        _ => 0,
     }
 }
 
 // Prints code, source and count.
 fn shown(outcome: Outcome) {
-    code(outcome.code);
+    let code = outcome.code;
+    unless(code >= 0, b"-");
+    number(magnitude(code));
     text(b" ");
     number(outcome.source);
     text(b" ");

@@ -1,7 +1,5 @@
-// Tables that are made for tests, by begins and by setting one field of one thread, and whether two tables are the same. Those with a name are the
-// tables of model's proofs/Clauses.
+// Tables that are made for tests, by begins and by setting one field of one thread. Those with a name are the tables of model's proofs/Clauses.
 pub mod edits;
 pub mod operations;
-pub mod same;
 pub mod tables;
 pub mod wild;

@@ -1,9 +1,7 @@
-// Tries every public call that takes a table on arguments that are refused, and prints the answers; then on odd ones that are accepted.
+// Tries every public call that takes a table on tables that are refused, and prints the answers; then on odd tables that are accepted.
 mod accepted;
 mod clauses;
-mod lengths;
 mod numbers;
-mod rows;
 
 use attempts::lines::show;
 use attempts::print::answer;
@@ -13,14 +11,35 @@ use cases::edits::with_queue;
 use cases::tables::three;
 use cases::wild::wild;
 
-// Tables of which no number means anything.
+// A new table of n threads.
+fn new_line(n: u8) {
+    text(b"N ");
+    number(n);
+    show(b"", core::new_table(n));
+}
+
+// A table of n threads with all flags, of which every byte is v.
+fn wild_line(n: u8, v: u8) {
+    text(b"N ");
+    number(n);
+    text(b", every byte ");
+    number(v);
+    show(b"", wild(n, v));
+}
+
+// Tables of no thread or more than 32, and tables of which no number means anything.
 fn wild_tables() {
+    text(b"\nN 0 or above 32\n");
+    new_line(0);
+    new_line(33);
+    new_line(255);
+    wild_line(33, 255);
     text(b"\nWild tables, all flags set\n");
-    show(b"N 1, every byte 255", wild(1, 255));
-    show(b"N 32, every byte 255", wild(32, 255));
-    show(b"N 32, every byte 32", wild(32, 32));
-    show(b"N 32, every byte 3", wild(32, 3));
-    show(b"N 1, every byte 0", wild(1, 0));
+    wild_line(1, 255);
+    wild_line(32, 255);
+    wild_line(32, 32);
+    wild_line(32, 3);
+    wild_line(1, 0);
     show(b"a queue of thread 255", with_queue(three(), 1, 255, 1));
     show(b"a queue of length 255", with_queue(three(), 1, 0, 255));
 }
@@ -52,8 +71,6 @@ fn makes() {
 fn main() {
     clauses::clauses();
     numbers::numbers();
-    lengths::lengths();
-    rows::rows();
     wild_tables();
     accepted::accepted();
     makes();

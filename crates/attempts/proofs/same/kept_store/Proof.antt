@@ -1,7 +1,7 @@
 use Prim.Native.Nat.{_≤_, _-_}
 use borrow.Author.Needs.{needs}
-use Rattle.cases.proofs.same.kept_store.Statement.{statement}
-use Rattle.cases.proofs.same.kept_store.Tie as tie
+use Rattle.attempts.proofs.same.kept_store.Statement.{statement}
+use Rattle.attempts.proofs.same.kept_store.Tie as tie
 
 abbrev Inv-loop : tie.InvT-loop
 Inv-loop store i₀ i = i ≤ 264

@@ -1,5 +1,4 @@
 // Whether two tables are the same, and whether a store and records are as they were filled.
-use model::Flags;
 use model::Operation;
 use model::Outcome;
 use model::Queue;
@@ -12,28 +11,7 @@ use model::Thread;
 pub const WORD: u32 = 7;
 
 // What every number of every record is filled with: no outcome has it.
-pub const NUMBER: u8 = 77;
-
-// The same flags.
-fn same_flags(a: Flags, b: Flags) -> bool {
-    (a.ipc == b.ipc)
-        & (a.send == b.send)
-        & (a.receiving == b.receiving)
-        & (a.poll == b.poll)
-        & (a.mark == b.mark)
-}
-
-// The same eight words.
-fn same_words(a: [u32; 8], b: [u32; 8]) -> bool {
-    (a[0] == b[0])
-        & (a[1] == b[1])
-        & (a[2] == b[2])
-        & (a[3] == b[3])
-        & (a[4] == b[4])
-        & (a[5] == b[5])
-        & (a[6] == b[6])
-        & (a[7] == b[7])
-}
+const NUMBER: u8 = 77;
 
 // The same send part, or the same that is left over from one.
 fn same_send(a: SendPart, b: SendPart) -> bool {
@@ -43,7 +21,14 @@ fn same_send(a: SendPart, b: SendPart) -> bool {
         & (a.target == b.target)
         & (a.count == b.count)
         & (a.time == b.time)
-        & same_words(v, w)
+        & (v[0] == w[0])
+        & (v[1] == w[1])
+        & (v[2] == w[2])
+        & (v[3] == w[3])
+        & (v[4] == w[4])
+        & (v[5] == w[5])
+        & (v[6] == w[6])
+        & (v[7] == w[7])
 }
 
 // A receive part as numbers: which part it is, its time code and its partner.
@@ -55,20 +40,13 @@ fn receive_numbers(receive: Receive) -> [u8; 3] {
     }
 }
 
-// The same receive part.
-fn same_receive(a: Receive, b: Receive) -> bool {
-    let v = receive_numbers(a);
-    let w = receive_numbers(b);
-    (v[0] == w[0]) & (v[1] == w[1]) & (v[2] == w[2])
-}
-
 // The same operation.
 fn same_operation(a: Operation, b: Operation) -> bool {
-    let g = a.send;
-    let h = b.send;
-    let v = a.receive;
-    let w = b.receive;
-    same_send(g, h) & same_receive(v, w)
+    let before = a.receive;
+    let after = b.receive;
+    let v = receive_numbers(before);
+    let w = receive_numbers(after);
+    same_send(a.send, b.send) & (v[0] == w[0]) & (v[1] == w[1]) & (v[2] == w[2])
 }
 
 // The same queue: its length, and the places up to there.
@@ -99,14 +77,14 @@ fn same_outcome(a: Outcome, b: Outcome) -> bool {
 
 // The same thread.
 fn same_thread(a: Thread, b: Thread) -> bool {
-    let flags = same_flags(a.flags, b.flags);
-    let op = same_operation(a.op, b.op);
-    let queue = same_queue(a.queue, b.queue);
-    let outcome = same_outcome(a.outcome, b.outcome);
-    flags
-        & op
-        & queue
-        & outcome
+    same_operation(a.op, b.op)
+        & same_queue(a.queue, b.queue)
+        & same_outcome(a.outcome, b.outcome)
+        & (a.flags.ipc == b.flags.ipc)
+        & (a.flags.send == b.flags.send)
+        & (a.flags.receiving == b.flags.receiving)
+        & (a.flags.poll == b.flags.poll)
+        & (a.flags.mark == b.flags.mark)
         & (a.phase == b.phase)
         & (a.left == b.left)
         & (a.owner == b.owner)
@@ -114,7 +92,7 @@ fn same_thread(a: Thread, b: Thread) -> bool {
         & (a.waking == b.waking)
 }
 
-// The same table: each field of each thread, the threads that are not in use too, but for the places of a queue past its length.
+// The same table: each field of each thread, also of those that are not in use, but for the places of a queue past its length.
 pub fn same_table(a: Table, b: Table) -> bool {
     let mut i: usize = 0;
     while i < 32 {
@@ -143,7 +121,7 @@ pub fn kept_store(store: &[u32; 264]) -> bool {
 // A record as it is filled.
 pub fn blank() -> Outcome {
     Outcome {
-        code: NUMBER as i32,
+        code: 77,
         source: NUMBER,
         count: NUMBER,
     }
@@ -151,10 +129,11 @@ pub fn blank() -> Outcome {
 
 // Records that are as they were filled.
 pub fn kept_records(records: [Outcome; 33]) -> bool {
+    let filled = blank();
     let mut i: usize = 0;
     while i < 33 {
         let outcome = records[i];
-        if !same_outcome(outcome, blank()) {
+        if !same_outcome(outcome, filled) {
             return false;
         }
         i += 1;

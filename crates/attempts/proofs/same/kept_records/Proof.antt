@@ -1,13 +1,16 @@
 use Prim.Native.Nat.{_≤_, _-_}
 use borrow.Author.Needs.{needs}
-use Rattle.cases.proofs.same.kept_records.Statement.{statement}
-use Rattle.cases.proofs.same.kept_records.Tie as tie
+use Rattle.attempts.proofs.same.kept_records.Statement.{statement}
+use Rattle.attempts.proofs.same.kept_records.Tie as tie
 
 abbrev Inv-loop : tie.InvT-loop
-Inv-loop records i₀ i = i ≤ 33
+Inv-loop records filled i₀ i = i ≤ 33
 
 abbrev μ-loop : tie.MeasureT-loop
-μ-loop records i₀ i = 33 - i
+μ-loop records filled i₀ i = 33 - i
+
+blank-requires : tie.Need-blank-requires Inv-loop μ-loop
+blank-requires c κs = search needs
 
 loop-holds : tie.Need-loop-holds Inv-loop μ-loop
 loop-holds c = search needs
@@ -17,9 +20,6 @@ mul-outcome c = search needs
 
 array-copy-out-outcome : tie.Need-array-copy-out-outcome Inv-loop μ-loop
 array-copy-out-outcome c = search needs
-
-blank-requires : tie.Need-blank-requires Inv-loop μ-loop
-blank-requires c κs = search needs
 
 same-outcome-requires : tie.Need-same-outcome-requires Inv-loop μ-loop
 same-outcome-requires c κs = search needs
@@ -45,10 +45,10 @@ kept-records-spec =
     (tie.spec
     Inv-loop
     μ-loop
+    blank-requires
     loop-holds
     mul-outcome
     array-copy-out-outcome
-    blank-requires
     same-outcome-requires
     returns
     add-i

@@ -1,66 +1,54 @@
-// Sizes of a table, numbers of threads, and lengths of stores and of slices of records.
+// Numbers of threads, and lengths of stores and of slices of records.
 use attempts::lines::by;
 use attempts::lines::reports;
-use attempts::lines::show;
 use attempts::lines::storing;
 use attempts::print::number;
 use attempts::print::text;
 use cases::edits::with_outcome;
+use libc::STDOUT_FILENO;
 use model::Table;
 use threads::DONE;
 use threads::NOBODY;
 
-// A table of n threads, of which thread 0 shows eight words.
+// A table of n threads, of which thread 0 shows eight words; prints its size.
 fn eight(n: u8) -> Table {
-    with_outcome(core::new_table(n), 0, DONE, NOBODY, 8)
-}
-
-// Prints the size of a table.
-fn size(n: u8) {
     text(b"N ");
     number(n);
-}
-
-// A new table of n threads.
-fn new(n: u8) {
-    size(n);
-    show(b"", core::new_table(n));
+    with_outcome(core::new_table(n), 0, DONE, NOBODY, 8)
 }
 
 // Thread x of n.
 fn thread(n: u8, x: u8) {
-    size(n);
+    let table = eight(n);
     text(b", thread ");
     number(x);
-    by(b"", eight(n), x, x);
+    by(b"", table, x, x);
 }
 
-// A store of so many words more or less than n threads have.
+// A store of so many words.
 fn store(n: u8, words: usize) {
-    size(n);
+    let table = eight(n);
     text(b", words ");
-    io::print_decimal(1, words as u64);
-    storing(b"", eight(n), 0, 0, words);
+    io::print_decimal(STDOUT_FILENO, words as u64);
+    storing(b"", table, 0, 0, words);
 }
 
 // A report into so many records.
 fn slice(n: u8, records: u8) {
-    size(n);
+    let table = eight(n);
     text(b", records ");
     number(records);
-    reports(b"", eight(n), records as usize);
+    reports(b"", table, records as usize);
 }
 
-// Tables of no thread or more than 32, and threads that are not in the table.
-fn numbers() {
-    text(b"\nN 0 or above 32\n");
-    new(0);
-    new(33);
-    new(255);
-    text(b"\nThread N or more\n");
+// Threads that are not in the table, and the last one that is.
+fn threads_beyond() {
+    text(b"Thread N or more\n");
     thread(1, 1);
+    thread(3, 2);
     thread(3, 3);
     thread(3, 255);
+    thread(32, 31);
     thread(32, 32);
     thread(32, 255);
 }
@@ -96,9 +84,9 @@ fn slices() {
     slice(32, 33);
 }
 
-// All sizes and lengths.
+// All numbers and lengths.
 pub fn lengths() {
-    numbers();
+    threads_beyond();
     stores();
     slices();
 }
