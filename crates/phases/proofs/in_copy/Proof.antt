@@ -1,8 +1,8 @@
 use mathlib.Core.Path.{sym, _∙_}
 use borrow.Author.Needs.{needs}
 use borrow.Author.Tests.{lt-ltb, le-ltb}
-use Rattle.laws.proofs.Lists.{cond-true, cond-false}
 use Rattle.laws.proofs.Decisions.{copy-word, copy-calls, copy-sends}
+use Rattle.laws.proofs.Lists.{cond-true, cond-false}
 use Rattle.phases.proofs.Settled.{settled}
 use Rattle.phases.specs.Fit.{wordAdded}
 use Rattle.phases.proofs.in_copy.Statement.{statement}

@@ -1,8 +1,8 @@
 use mathlib.Core.Path.{_∙_}
 use borrow.Author.Needs.{needs}
 use borrow.Author.Tests.{not-true, not-false, eq-eqb, ne-eqb}
-use Rattle.laws.proofs.Lists.{cond-true, cond-false}
 use Rattle.laws.proofs.Decisions.{look-ended, look-cancelled}
+use Rattle.laws.proofs.Lists.{cond-true, cond-false}
 use Rattle.phases.proofs.Settled.{settled}
 use Rattle.phases.specs.Fit.{foundAs}
 use Rattle.phases.proofs.in_look.Statement.{statement}

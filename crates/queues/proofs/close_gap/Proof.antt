@@ -4,8 +4,8 @@ use native.Mathlib.Numerals.{add-one}
 use native.Mathlib.Omega.{arith}
 use lib.ListN.{length}
 use borrow.Author.Needs.{needs}
-use Rattle.queues.specs.Places.{movedUp, gapClosed}
 use Rattle.queues.proofs.Laws.{none-moved, one-more-moved}
+use Rattle.queues.specs.Places.{movedUp, gapClosed}
 use Rattle.queues.proofs.close_gap.Statement.{statement}
 use Rattle.queues.proofs.close_gap.Tie as tie
 

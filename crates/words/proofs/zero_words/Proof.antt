@@ -1,10 +1,10 @@
-use mathlib.Core.Path.{_≡_}
 use mathlib.Core.List.{_++_, append-nil}
+use mathlib.Core.Path.{_≡_}
 use Prim.Native.Nat.{_-_, _≤_}
 use native.Mathlib.Omega.{arith}
-use denote.Ref.{now}
 use lib.ListN.{length, drop, replicate}
 use lib.Seq.{drop-length}
+use denote.Ref.{now}
 use borrow.Author.Fill.{fill-none, fill-more}
 use borrow.Author.Needs.{needs}
 use Rattle.words.proofs.zero_words.Statement.{statement}
