@@ -1,12 +1,13 @@
 -- What a call that may run is owed and may rely on: its promise from what it answers and leaves, by the code's tests, and the places that it reads and writes.
-use mathlib.Core.Path.{_≡_, refl, sym, ap, _∙_}
+use mathlib.Core.Path.{_≡_, refl, sym, ap, _∙_, subst}
 use mathlib.Core.Bool.{true, false}
 use mathlib.Core.List.{List, []}
 use Prim.Native.Nat.{ℕ, _+_, _*_, _≤_, _<_}
 use native.Mathlib.Numerals.{add-one}
 use native.Mathlib.Omega.{arith}
 use lib.ListN.{length}
-use borrow.Author.Tests.{le-leb, lt-leb}
+use lib.Dec.{ltb}
+use borrow.Author.Tests.{le-leb, lt-leb, ltb-true, ltb-false}
 use mir.Val.{Val}
 use denote.Shadow.{shadow}
 use Rattle.model.specs.declared.Operation.{Operation}
@@ -21,12 +22,16 @@ use Rattle.model.specs.WellFormed.{Shaped}
 use Rattle.model.specs.Calls.{begun, beginTable, cancelTable, cancelReply, ticked, tickTable, Call, begin, cancel, tick, State, acceptedReply, acceptedState}
 use Rattle.model.specs.Refusals.{rowsOf, refusal, tableRows, placeRows, beginRows, laterRows}
 use Rattle.model.specs.Promise.{state, Promise}
+use Rattle.model.proofs.Laws.{by, and-right}
 use Rattle.model.proofs.Table.{the-row}
 use Rattle.model.proofs.Numbers.{size-read}
 use Rattle.model.proofs.Tested.{well-formed-told}
 use Rattle.model.proofs.Free.{target-beyond}
 use Rattle.laws.proofs.Refusals.{AcceptedBegin, accepted-table, accepted-begin, accepted-cancel}
 use Rattle.laws.proofs.Calls.{accepted-next, accepted-answer, begins-to-send, begins-to-receive, cancel-marks, cancel-marks-reply, cancel-nothing, cancel-nothing-reply}
+use Rattle.laws.proofs.Lists.{cond-true, cond-false}
+use Rattle.laws.proofs.Tables.{put-own}
+use Rattle.begins.specs.Begun.{joins, joinedPlace, queueJoined, ownBegun}
 use Rattle.formed.proofs.Shape.{shaped}
 use Rattle.formed.proofs.Neighbours.{quiet-in-idle, queue-room}
 use Rattle.invariant.proofs.Keeps.{found-formed}
@@ -61,11 +66,11 @@ module _ (x : ℕ) (o : Operation) (s : State) (e : refusal (begin x o) s ≡ 0)
   begin-words = omega (arith, tested .below, tested .store)
 
   -- a target in the table has a place in the array
-  pub target-place : o .send .target < s .table .n → o .send .target < 32
+  target-place : o .send .target < s .table .n → o .send .target < 32
   target-place near = omega (arith, accepted-few (begin x o) s e)
 
   -- and room in its queue
-  pub target-room : Shaped (s .table) → o .send .target < s .table .n → at (s .table) (o .send .target) .queue .len < 32
+  target-room : Shaped (s .table) → o .send .target < s .table .n → at (s .table) (o .send .target) .queue .len < 32
   target-room whole near = let F = found-formed (begin x o) s whole e in
       queue-room F x (o .send .target) (tested .below) near (quiet-in-idle F x (tested .below) (tested .inIdle))
 
@@ -76,21 +81,64 @@ module _ (x : ℕ) (o : Operation) (s : State) (e : refusal (begin x o) s ≡ 0)
     begin-performed after left = performed (begin x o) s e Accepted (state after words) refl (rw (left, cleared) refl)
 
     -- with a target of n or more: h is the thread that ended
-    pub begin-beyond : o .send .present ≡ true → s .table .n ≤ o .send .target → (h : Thread) → h ≡ ended (codeOnly noReceiver) (at (s .table) x)
+    begin-beyond : o .send .present ≡ true → s .table .n ≤ o .send .target → (h : Thread) → h ≡ ended (codeOnly noReceiver) (at (s .table) x)
         → Promise (begin x o) s Accepted (state (put x h (s .table)) words)
     unfolding edit targetBeyond
     begin-beyond sends far h is = begin-performed _ (rw is (sym (target-beyond x o (s .table) (rw (sends, le-leb (s .table .n) (o .send .target) far) refl))))
 
     -- with a target in the table: g is the target with the thread in its queue, h the thread that began
-    pub begin-sends : o .send .present ≡ true → o .send .target < s .table .n → (g h : Thread) → g ≡ joined x (at (s .table) (o .send .target))
+    begin-sends : o .send .present ≡ true → o .send .target < s .table .n → (g h : Thread) → g ≡ joined x (at (s .table) (o .send .target))
         → h ≡ begun o lock (at (put (o .send .target) g (s .table)) x) → Promise (begin x o) s Accepted (state (put x h (put (o .send .target) g (s .table))) words)
     unfolding edit targetBeyond
     begin-sends sends near g h joins is = begin-performed _ (rw (is, joins) (sym (begins-to-send x o (s .table) (rw (sends, lt-leb (s .table .n) (o .send .target) near) refl) sends)))
 
     -- without a send part: h is the thread that began
-    pub begin-receives : o .send .present ≡ false → (h : Thread) → h ≡ begun o look (at (s .table) x) → Promise (begin x o) s Accepted (state (put x h (s .table)) words)
+    begin-receives : o .send .present ≡ false → (h : Thread) → h ≡ begun o look (at (s .table) x) → Promise (begin x o) s Accepted (state (put x h (s .table)) words)
     unfolding edit
     begin-receives alone h is = begin-performed _ (rw is (sym (begins-to-receive x o (s .table) alone)))
+
+    -- ---- with the place j whose queue is joined, as the code has it: g is the thread there and h thread x, afterwards
+    module _ (j : ℕ) (g h : Thread) (joins-is : g ≡ queueJoined (s .table .n) x o (at (s .table) j)) (begins-is : h ≡ ownBegun (s .table .n) o (at (put j g (s .table)) x)) where
+      -- where no queue is joined, the table is still what it was
+      none-joined : joins (s .table .n) o ≡ false → put j g (s .table) ≡ s .table
+      unfolding queueJoined
+      none-joined no-queue = ap (λ (k : Thread). put j k (s .table)) (joins-is ∙ cond-false _ _ _ no-queue) ∙ put-own j (s .table)
+
+      -- with a target of n or more, or without a send part
+      begin-alone : (k : Thread → Thread) → joins (s .table .n) o ≡ false → ((r : Thread) → ownBegun (s .table .n) o r ≡ k r)
+          → (h ≡ k (at (s .table) x) → Promise (begin x o) s Accepted (state (put x h (s .table)) words))
+          → Promise (begin x o) s Accepted (state (put x h (put j g (s .table))) words)
+      begin-alone k no-queue does promised = subst (λ (u : Table). Promise (begin x o) s Accepted (state (put x h u) words)) (sym (none-joined no-queue))
+          (promised (begins-is ∙ does _ ∙ ap (λ (u : Table). k (at u x)) (none-joined no-queue)))
+
+      -- the promise
+      pub begin-leaves : j ≡ joinedPlace (s .table .n) x o → Promise (begin x o) s Accepted (state (put x h (put j g (s .table))) words)
+      unfolding joins joinedPlace queueJoined ownBegun
+      begin-leaves place = by (o .send .present)
+          (λ sends. by (ltb (o .send .target) (s .table .n))
+          (λ near. let joining : joins (s .table .n) o ≡ true = rw (sends, near) refl in
+          let is : j ≡ o .send .target = place ∙ cond-true _ _ _ joining in
+          rw is (begin-sends sends (ltb-true _ _ near) g h
+          (joins-is ∙ cond-true _ _ _ joining ∙ ap (λ (k : ℕ). joined x (at (s .table) k)) is)
+          (begins-is ∙ cond-true _ _ _ sends ∙ cond-true _ _ _ near ∙ ap (λ (k : ℕ). begun o lock (at (put k g (s .table)) x)) is)))
+          (λ far. begin-alone (λ r. ended (codeOnly noReceiver) r) (rw (sends, far) refl) (λ r. cond-true _ _ _ sends ∙ cond-false _ _ _ far) (begin-beyond sends (ltb-false _ _ far) h)))
+          (λ alone. begin-alone (λ r. begun o look r) (rw alone refl) (λ r. cond-false _ _ _ alone) (begin-receives alone h))
+
+  -- the thread whose queue is joined has a place in the array
+  module _ (j : ℕ) (is : j ≡ joinedPlace (s .table .n) x o) where
+    -- it is the target, or thread x itself
+    pub joined-in-array : j < 32
+    unfolding joins joinedPlace
+    joined-in-array = rw is (by (o .send .present)
+        (λ sends. by (ltb (o .send .target) (s .table .n))
+        (λ near. rw (sends, near) (target-place (ltb-true _ _ near)))
+        (λ far. rw (sends, far) begin-place))
+        (λ alone. rw alone begin-place))
+
+    -- and room in its queue
+    pub joined-room : Shaped (s .table) → joins (s .table .n) o ≡ true → at (s .table) j .queue .len < 32
+    unfolding joins joinedPlace
+    joined-room whole joining = rw (is ∙ cond-true _ _ _ joining) (target-room whole (ltb-true _ _ (and-right (o .send .present) _ joining)))
 
 -- ---- cancel
 -- the thread has a place in the array

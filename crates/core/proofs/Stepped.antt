@@ -1,23 +1,24 @@
 -- A step on two threads of a table and a slice of the store is the step of the table and the store.
 use mathlib.Core.Path.{_≡_, refl, sym, _∙_, ap, subst}
 use mathlib.Core.Logic.{_≢_, _⊎_, inl, inr, ⊎-elim}
-use mathlib.Core.Bool.{true, cond}
+use mathlib.Core.Bool.{true, false, cond, false≢true}
 use mathlib.Core.Option.{Option, none, some, Option·getD}
 use mathlib.Core.List.{List}
 use Prim.Native.Nat.{ℕ, _+_, _-_, _*_, _≤_, _<_}
 use native.Mathlib.Omega.{arith}
 use lib.ListN.{length, getD, set}
 use lib.Dec.{ltb}
+use lib.IntN.{ℤ}
 use borrow.Author.Tests.{eq-eqb, ne-eqb, ltb-true, ltb-false}
 use borrow.Rule.Slice.PartMut.{midOf, putMid, put-same, set-mid-at, mid-len}
 use Rattle.model.specs.declared.Thread.{Thread}
 use Rattle.model.specs.declared.Table.{Table}
 use Rattle.model.specs.declared.Answer.the-variants.{Held}
 use Rattle.model.specs.Answers.{held, replied}
-use Rattle.model.specs.Shared.{receiveCancelled, nobody, hasReceive}
+use Rattle.model.specs.Shared.{receiveCancelled, sendCancelled, sendTimeOver, nobody, hasReceive}
 use Rattle.model.specs.Threads.{Phase, idle, lock, check, copy, release, sleep, look, wake, unlock, unknown, phaseOf, phaseNumber, at, put, lockFree, findSender}
 use Rattle.model.specs.WellFormed.{Shaped}
-use Rattle.model.specs.Step.{Action, abortReceive, toIdle, copyWord, stay, other, lookAt, decideIn, decide, replyOf, ownAfter, otherAfter, act, wordCopied, storeAfter}
+use Rattle.model.specs.Step.{Action, abortSend, abortReceive, toIdle, copyWord, stay, other, lookAt, decideIn, decide, replyOf, ownAfter, otherAfter, act, wordCopied, storeAfter}
 use Rattle.model.specs.Calls.{step, State, acceptedReply, acceptedState}
 use Rattle.model.specs.Refusals.{refusal}
 use Rattle.model.specs.Promise.{Promise, state}
@@ -32,8 +33,13 @@ use Rattle.formed.proofs.Facts.{count-small, queue-small}
 use Rattle.formed.proofs.Formed.{Formed}
 use Rattle.formed.proofs.Neighbours.{below-nobody, number, sends-in-check, sends-in-copy, target-in-lock, target-in-check, target-in-copy, target-in-release, woken-in-wake, woken-in-unlock, queued-sends, queued-at-target}
 use Rattle.invariant.proofs.Keeps.{found-formed}
-use Rattle.actions.specs.declared.Changed.{Changed}
-use Rattle.actions.specs.Acted.{Acted, Waits}
+use Rattle.actions.specs.declared.Change.{Change}
+use Rattle.actions.specs.declared.Ending.{Ending}
+use Rattle.actions.specs.declared.Ending.the-variants.{Nothing, SendCancelled, SendTimeOver, CallFinished, SendFinished, ReceiveCancelled, ReceiveTimeOver}
+use Rattle.actions.specs.Acted.{ownChanged, otherChanged, endingAction, ends, Told, Acted}
+use Rattle.actions.proofs.Endings.{told-fields, told-ending}
+use Rattle.endings.specs.declared.Pair.{Pair}
+use Rattle.endings.specs.Ended.{Ended, Waits, endsSend}
 use Rattle.phases.specs.Fit.{foundAs, Fit, wordAdded, wordsAfter}
 use Rattle.laws.proofs.Decisions.{in-number, copy-word, copy-calls, copy-sends}
 use Rattle.phases.proofs.Settled.{words-kept, words-copied}
@@ -111,11 +117,17 @@ module _ (t : Table) (F : Formed (t .n) (at t)) (x : ℕ) (xn : x < t .n) where
       let few = below-nobody F in
       f ∙ sym (ap (λ (o : ℕ). foundAs o) is ∙ cond-false _ _ _ (ne-eqb s nobody (λ k. omega arith)))
 
-  -- so the step on two threads has what it relies on
-  pub fits : Fit x (other own) own (at t (orOwn (other own) x))
+  -- so does one in check
+  pub waits-in-check : phaseOf (own .phase) ≡ check → Waits x (at t (orOwn (other own) x))
+  waits-in-check e = waits-at check e (sends-in-check F x xn e) (other-in own check e) (target-in-check F x xn e .below)
+
+  -- and one in copy
+  pub waits-in-copy : phaseOf (own .phase) ≡ copy → Waits x (at t (orOwn (other own) x))
+  waits-in-copy e = waits-at copy e (sends-in-copy F x xn e) (other-in own copy e) (target-in-copy F x xn e .below)
+
+  -- the step on two threads has what it relies on
+  pub fits : Fit (other own) own
   fits = record {
-    waits = λ e. waits-at check e (sends-in-check F x xn e) (other-in own check e) (target-in-check F x xn e .below);
-    copies = λ e. waits-at copy e (sends-in-copy F x xn e) (other-in own copy e) (target-in-copy F x xn e .below);
     counts = λ e. count-small (F .own x xn) (sends-in-copy F x xn e);
     finds = λ e. found-other e (findSender own) refl;
   }
@@ -205,8 +217,8 @@ module _ (x : ℕ) (s : State) (accepted : refusal (step x) s ≡ 0) (shaped : S
     slice-eight = mid-len (8 * j) (8 * j + 8) (s .store) slice-ends ∙ omega arith
 
     -- so a step on the two threads has what it relies on
-    pub fits-here : Fit x o (at before x) (at before j)
-    fits-here = rw (is, finds) (fits before formed x below)
+    pub fits-here : Fit o (at before x)
+    fits-here = rw finds (fits before formed x below)
 
     module _ (free : at before x .owner ≡ nobody) where
       -- what the step decides
@@ -262,20 +274,56 @@ module _ (x : ℕ) (s : State) (accepted : refusal (step x) s ≡ 0) (shaped : S
           (λ l. ap (putMid (8 * j) size (s .store)) (cond-false _ _ _ l) ∙ put-same (8 * j) size (s .store) ∙ sym (store-finished e (ltb-false (at before x .copied) (at before x .op .send .count) l))))
           (λ d. ap (putMid (8 * j) size (s .store)) (sym (words-kept (at before x) slice d)) ∙ put-same (8 * j) size (s .store) ∙ sym (store-kept d))
 
-      -- the two threads put back are the table after the step
-      table-back : (a : Action) (c : Changed) → a ≡ decide before x → Acted a x (at before x) (at before j) c → put x (c .own) (put j (c .other) before) ≡ act (decide before x) x before
-      table-back a c e acted =
-          ap (λ (h : Thread). put x h (put j (c .other) before)) (acted .own)
-          ∙ ap (λ (h : Thread). put x (ownAfter a (at before x)) (put j h before)) (acted .other)
-          ∙ ap (λ (k : ℕ). put x (ownAfter a (at before x)) (put k (otherAfter a x (at before x) (at before k)) before)) is
-          ∙ put-back before formed x below a (shaped .threads)
-          ∙ ap (λ (b : Action). act b x before) e
+      -- what the step on two threads does
+      abbrev does : Action
+      does = decideIn (phaseOf (at before x .phase)) x (at before x) (at before j)
 
-      -- the two threads and the slice put back keep the promise of the step
-      pub stepped : (c : Changed) (words : List ℕ) → Acted (decideIn (phaseOf (at before x .phase)) x (at before x) (at before j)) x (at before x) (at before j) c → words ≡ wordsAfter (at before x) slice
-          → Promise (step x) s (c .answer) (state (put x (c .own) (put j (c .other) before)) (putMid (8 * j) size (s .store) words))
-      unfolding acceptedReply acceptedState
-      stepped c words acted copied = performed (step x) s accepted (c .answer) _
-          (acted .answers ∙ ap (λ (a : Action). replied (replyOf a)) (sym decides))
-          (ap (λ (t : Table). state t (putMid (8 * j) size (s .store) words)) (table-back _ c (sym decides) acted)
-          ∙ ap (λ (w : List ℕ). state (act (decide before x) x before) w) (ap (putMid (8 * j) size (s .store)) copied ∙ store-back))
+      -- a thread in check waits in the queue of the thread that is read
+      check-waits : (code : ℤ) → abortSend code ≡ does → Waits x (at before j)
+      check-waits code e = rw is (waits-in-check before formed x below (subst (TestedFor before x) (decides ∙ sym e) (decided before x) .0))
+
+      -- a send part that ends had its sender in the queue of the thread that is read
+      pub ending-waits : (c : Change) → Acted does x (at before x) (at before j) c → endsSend (c .ending) ≡ true → Waits x (at before j)
+      ending-waits c acted = go (c .ending) (acted .told)
+        where
+          go : (e : Ending) → Told does x (at before x) (at before j) c (endingAction e) → endsSend e ≡ true → Waits x (at before j)
+          go Nothing told sends = absurd (false≢true sends)
+          go SendCancelled told sends = check-waits sendCancelled told
+          go SendTimeOver told sends = check-waits sendTimeOver told
+          go CallFinished told sends = rw is (waits-in-copy before formed x below (subst (TestedFor before x) (decides ∙ sym told) (decided before x) .0))
+          go SendFinished told sends = rw is (waits-in-copy before formed x below (subst (TestedFor before x) (decides ∙ sym told) (decided before x) .0))
+          go ReceiveCancelled told sends = absurd (false≢true sends)
+          go ReceiveTimeOver told sends = absurd (false≢true sends)
+
+      module _ (c : Change) (acted : Acted does x (at before x) (at before j) c) (words : List ℕ) (copied : words ≡ wordsAfter (at before x) slice) (mine theirs : Thread) where
+        -- the two threads put back are the table after the step
+        table-back : mine ≡ ownAfter does (at before x) → theirs ≡ otherAfter does x (at before x) (at before j) → put x mine (put j theirs before) ≡ act (decide before x) x before
+        table-back own-is other-is =
+            ap (λ (h : Thread). put x h (put j theirs before)) own-is
+            ∙ ap (λ (h : Thread). put x (ownAfter does (at before x)) (put j h before)) other-is
+            ∙ ap (λ (k : ℕ). put x (ownAfter does (at before x)) (put k (otherAfter does x (at before x) (at before k)) before)) is
+            ∙ put-back before formed x below does (shaped .threads)
+            ∙ ap (λ (b : Action). act b x before) (sym decides)
+
+        -- the two threads and the slice put back keep the promise of the step
+        stepped : mine ≡ ownAfter does (at before x) → theirs ≡ otherAfter does x (at before x) (at before j)
+            → Promise (step x) s (c .answer) (state (put x mine (put j theirs before)) (putMid (8 * j) size (s .store) words))
+        unfolding acceptedReply acceptedState
+        stepped own-is other-is = performed (step x) s accepted (c .answer) _
+            (acted .answers ∙ ap (λ (a : Action). replied (replyOf a)) (sym decides))
+            (ap (λ (t : Table). state t (putMid (8 * j) size (s .store) words)) (table-back own-is other-is)
+            ∙ ap (λ (w : List ℕ). state (act (decide before x) x before) w) (ap (putMid (8 * j) size (s .store)) copied ∙ store-back))
+
+        -- a step that ends nothing, with the fields that are set
+        pub stepped-on : false ≡ ends (endingAction (c .ending)) → mine ≡ ownChanged c (at before x) → theirs ≡ otherChanged c (at before j)
+            → Promise (step x) s (c .answer) (state (put x mine (put j theirs before)) (putMid (8 * j) size (s .store) words))
+        stepped-on goes own-is other-is =
+            let fields = told-fields does x (at before x) (at before j) c (endingAction (c .ending)) (sym goes) (acted .told) in
+            stepped (own-is ∙ fields .0) (other-is ∙ fields .1)
+
+        -- a step that ends something, with both threads as the ending leaves them
+        pub stepped-to-end : true ≡ ends (endingAction (c .ending)) → ((a : Action) → endingAction (c .ending) ≡ some a → Ended a x (at before x) (at before j) (record { own = mine; other = theirs }))
+            → Promise (step x) s (c .answer) (state (put x mine (put j theirs before)) (putMid (8 * j) size (s .store) words))
+        stepped-to-end over ended =
+            let both = ended does (told-ending does x (at before x) (at before j) c (endingAction (c .ending)) (sym over) (acted .told)) in
+            stepped (both .own) (both .other)

@@ -2,14 +2,12 @@
 ghost use mathlib.Core.Path.{_≡_};
 ghost use mathlib.Core.List.{List, []};
 ghost use Prim.Native.Nat.{ℕ};
-ghost use Rattle.model.specs.Shared.{firstTime};
-ghost use Rattle.model.specs.Threads.{Phase, phaseNumber, noOperation, newThread, newTable};
-ghost use Rattle.model.specs.Calls.{Call, begunFlags, begun};
+ghost use Rattle.model.specs.Threads.{noOperation, newThread, newTable};
+ghost use Rattle.model.specs.Calls.{Call};
 ghost use Rattle.model.specs.Refusals.{refusal};
 ghost use Rattle.model.specs.Promise.{state, Promise};
 ghost use Rattle.core.specs.Places.{orOwn};
 use model::Answer;
-use model::Flags;
 use model::Operation;
 use model::Queue;
 use model::Receive;
@@ -68,76 +66,20 @@ pub fn new_table(n: u8) -> Table
     }
 }
 
-// The time code of an operation's first part.
-fn first_time(op: Operation) -> u8
-    ensures { λ r. ⌜ r ≡ firstTime op ⌝ }
-{
-    let send = op.send;
-    if send.present {
-        return send.time;
-    }
-    let receive = op.receive;
-    threads::receive_time(receive)
-}
-
-// The flags of a thread that begins an operation.
-fn begun_flags(op: Operation) -> Flags
-    ensures { λ r. ⌜ r ≡ begunFlags op ⌝ }
-{
-    let send = op.send;
-    let receive = op.receive;
-    Flags {
-        ipc: true,
-        send: send.present,
-        receiving: threads::has_receive(receive),
-        poll: false,
-        mark: false,
-    }
-}
-
-// A thread that begins an operation in a phase.
-pub fn begun_with(h: Thread, op: Operation, phase: u8) -> Thread
-    ensures { λ r. ⌜ ((p : Phase) → phase ≡ phaseNumber p → r ≡ begun op p h) ⌝ }
-{
-    let mut next = h;
-    next.flags = begun_flags(op);
-    next.phase = phase;
-    next.op = op;
-    next.left = threads::tick_count(first_time(op));
-    next.outcome = threads::code_only(threads::RUNNING);
-    next
-}
-
 // Thread x begins an operation.
 pub fn begin(table: Table, x: u8, op: Operation, store: &mut [u32]) -> Returned
     requires { ⌜ refusal (Call.begin x op) (state table (now store)) ≡ 0 ⌝ }
     ensures { λ r. ⌜ Promise (Call.begin x op) (state table (now (store .entry))) (r .answer) (state (r .table) (now (store .exit))) ⌝ }
 {
     words::zero_thread(store, x);
+    let n = table.n;
+    let j = begins::joined_place(n, x, op) as usize;
     let mut next = table;
+    let other = next.threads[j];
+    next.threads[j] = begins::join_queue(n, x, op, other);
     let i = x as usize;
-    let send = op.send;
-    if send.present {
-        if table.n <= send.target {
-            let h = next.threads[i];
-            next.threads[i] = threads::end_with_code(h, threads::NO_RECEIVER);
-            return Returned {
-                answer: Answer::Accepted,
-                table: next,
-            };
-        }
-        let r = send.target as usize;
-        let target = next.threads[r];
-        next.threads[r] = queues::join(target, x);
-        let h = next.threads[i];
-        next.threads[i] = begun_with(h, op, threads::LOCK);
-        return Returned {
-            answer: Answer::Accepted,
-            table: next,
-        };
-    }
-    let h = next.threads[i];
-    next.threads[i] = begun_with(h, op, threads::LOOK);
+    let own = next.threads[i];
+    next.threads[i] = begins::begin_own(n, op, own);
     Returned {
         answer: Answer::Accepted,
         table: next,
@@ -172,13 +114,23 @@ pub fn step(table: Table, x: u8, store: &mut [u32]) -> Returned
     let other = table.threads[j];
     let a = 8 * j;
     let e = a + 8;
-    let changed = phases::step_threads(x, o, own, other, &mut store[a..e]);
-    let answer = changed.answer;
-    let mine = changed.own;
-    let theirs = changed.other;
+    let change = phases::step_threads(x, o, own, other, &mut store[a..e]);
+    let answer = change.answer;
+    let ending = change.ending;
     let mut next = table;
-    next.threads[j] = theirs;
-    next.threads[i] = mine;
+    if actions::is_ending(ending) {
+        let both = endings::end_threads(x, ending, own, other);
+        let theirs = both.other;
+        let mine = both.own;
+        next.threads[j] = theirs;
+        next.threads[i] = mine;
+        return Returned {
+            answer: answer,
+            table: next,
+        };
+    }
+    next.threads[j] = actions::change_other(change, other);
+    next.threads[i] = actions::change_own(change, own);
     Returned {
         answer: answer,
         table: next,

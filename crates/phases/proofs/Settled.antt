@@ -8,17 +8,17 @@ use Rattle.model.specs.declared.Thread.{Thread}
 use Rattle.model.specs.Threads.{Phase, copy, phaseOf, phaseNumber}
 use Rattle.model.specs.Step.{Action, decideIn}
 use Rattle.laws.proofs.Lists.{cond-true, cond-false}
-use Rattle.actions.specs.declared.Changed.{Changed}
+use Rattle.actions.specs.declared.Change.{Change}
 use Rattle.actions.specs.Acted.{Acted}
 use Rattle.phases.specs.Fit.{wordAdded, wordsAfter}
 use Rattle.laws.proofs.Decisions.{in-number}
 
 -- a step that has done what it settled on
-pub settled : {a b : Action} (x : ℕ) (h r : Thread) (c : Changed) → a ≡ b → Acted b x h r c → Acted a x h r c
+pub settled : {a b : Action} (x : ℕ) (h r : Thread) (c : Change) → a ≡ b → Acted b x h r c → Acted a x h r c
 settled x h r c e = subst (λ (a : Action). Acted a x h r c) (sym e)
 
 -- a step that has done what its phase settles on
-pub settled-in : (p : Phase) (x : ℕ) (h r : Thread) (c : Changed) → h .phase ≡ phaseNumber p → Acted (decideIn p x h r) x h r c → Acted (decideIn (phaseOf (h .phase)) x h r) x h r c
+pub settled-in : (p : Phase) (x : ℕ) (h r : Thread) (c : Change) → h .phase ≡ phaseNumber p → Acted (decideIn p x h r) x h r c → Acted (decideIn (phaseOf (h .phase)) x h r) x h r c
 settled-in p x h r c e = settled x h r c (ap (λ (q : Phase). decideIn q x h r) (in-number p (h .phase) e))
 
 -- only a thread in copy changes the other's words

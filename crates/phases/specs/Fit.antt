@@ -8,8 +8,7 @@ use lib.ListN.{getD, set}
 use lib.Dec.{eqb, ltb}
 use Rattle.model.specs.declared.Thread.{Thread}
 use Rattle.model.specs.Shared.{nobody, wordLimit}
-use Rattle.model.specs.Threads.{check, copy, look, phaseOf, phaseNumber, findSender}
-use Rattle.actions.specs.Acted.{Waits}
+use Rattle.model.specs.Threads.{copy, look, phaseOf, phaseNumber, findSender}
 
 -- what the search has found, where o is the first acceptable sender or nobody
 unfoldable pub foundAs : ℕ → Option ℕ
@@ -21,10 +20,8 @@ pub record LooksOn (h : Thread) (o : Option ℕ) : Type 0 where
   pub unmarked : h .flags .mark ≡ false
   pub found : findSender h ≡ o
 
--- thread x, which is h, can step with r for the thread o, as a well-formed table lets it
-pub record Fit (x o : ℕ) (h r : Thread) : Type 0 where
-  pub waits : phaseOf (h .phase) ≡ check → Waits x r
-  pub copies : phaseOf (h .phase) ≡ copy → Waits x r
+-- thread h can step with the thread o for its other one, as a well-formed table lets it
+pub record Fit (o : ℕ) (h : Thread) : Type 0 where
   pub counts : phaseOf (h .phase) ≡ copy → h .op .send .count ≤ wordLimit
   pub finds : phaseOf (h .phase) ≡ look → findSender h ≡ foundAs o
 

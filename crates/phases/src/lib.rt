@@ -6,21 +6,22 @@ ghost use lib.ListN.{length};
 ghost use Rattle.model.specs.Shared.{wordLimit};
 ghost use Rattle.model.specs.Threads.{idle, lock, check, copy, release, sleep, look, wake, unlock, phaseOf, findSender};
 ghost use Rattle.model.specs.Step.{other, decideIn};
-ghost use Rattle.actions.specs.Acted.{Acted, Waits};
+ghost use Rattle.actions.specs.Acted.{Acted};
 ghost use Rattle.phases.specs.Fit.{foundAs, LooksOn, Fit, wordAdded, wordsAfter};
-use actions::Changed;
+use actions::Change;
+use actions::Ending;
 use model::Answer;
 use model::Thread;
 
 // Idle: answer idle.
-fn in_idle(x: u8, own: Thread, other: Thread) -> Changed
+fn in_idle(x: u8, own: Thread, other: Thread) -> Change
     ensures { λ r. ⌜ Acted (decideIn idle x own other) x own other r ⌝ }
 {
     actions::stay_with(Answer::Idle, own, other)
 }
 
 // Lock: take the target's lock if it is free.
-fn in_lock(x: u8, own: Thread, other: Thread) -> Changed
+fn in_lock(x: u8, own: Thread, other: Thread) -> Change
     ensures { λ r. ⌜ Acted (decideIn lock x own other) x own other r ⌝ }
 {
     if other.owner == threads::NOBODY {
@@ -30,27 +31,25 @@ fn in_lock(x: u8, own: Thread, other: Thread) -> Changed
 }
 
 // Check: abort if marked, copy if the target is ready, abort if no time is left, else release.
-fn in_check(x: u8, own: Thread, other: Thread) -> Changed
-    requires { ⌜ Waits x other ⌝ }
+fn in_check(x: u8, own: Thread, other: Thread) -> Change
     ensures { λ r. ⌜ Acted (decideIn check x own other) x own other r ⌝ }
 {
     let ready = threads::is_ready(other, x);
     let late = own.left == 0;
     if own.flags.mark {
-        return actions::abort_send(x, threads::SEND_CANCELLED, own, other);
+        return actions::end_by(Ending::SendCancelled, own, other);
     }
     if ready {
         return actions::start_copy(own, other);
     }
     if late {
-        return actions::abort_send(x, threads::SEND_TIME_OVER, own, other);
+        return actions::end_by(Ending::SendTimeOver, own, other);
     }
     actions::go_to_release(own, other)
 }
 
 // Copy: one word into the receiver's eight; when none remains, finish.
-fn in_copy(x: u8, own: Thread, other: Thread, words: &mut [u32]) -> Changed
-    requires { ⌜ Waits x other ⌝ }
+fn in_copy(x: u8, own: Thread, other: Thread, words: &mut [u32]) -> Change
     requires { ⌜ own .op .send .count ≤ wordLimit ⌝ }
     requires { ⌜ length (now words) ≡ 8 ⌝ }
     ensures acted { λ r. ⌜ Acted (decideIn copy x own other) x own other r ⌝ }
@@ -63,13 +62,13 @@ fn in_copy(x: u8, own: Thread, other: Thread, words: &mut [u32]) -> Changed
     }
     let receive = op.receive;
     if threads::has_receive(receive) {
-        return actions::finish_call(x, own, other);
+        return actions::end_by(Ending::CallFinished, own, other);
     }
-    actions::finish_send(x, own, other)
+    actions::end_by(Ending::SendFinished, own, other)
 }
 
 // Release: free the target's lock; then sleep, look or idle.
-fn in_release(x: u8, own: Thread, other: Thread) -> Changed
+fn in_release(x: u8, own: Thread, other: Thread) -> Change
     ensures { λ r. ⌜ Acted (decideIn release x own other) x own other r ⌝ }
 {
     let flags = own.flags;
@@ -83,7 +82,7 @@ fn in_release(x: u8, own: Thread, other: Thread) -> Changed
 }
 
 // Sleep: go to lock if poll is clear, or marked, or no time is left.
-fn in_sleep(x: u8, own: Thread, other: Thread) -> Changed
+fn in_sleep(x: u8, own: Thread, other: Thread) -> Change
     ensures { λ r. ⌜ Acted (decideIn sleep x own other) x own other r ⌝ }
 {
     let flags = own.flags;
@@ -100,7 +99,7 @@ fn in_sleep(x: u8, own: Thread, other: Thread) -> Changed
 }
 
 // Look: with o for the first acceptable sender, or nobody.
-fn in_look(x: u8, o: u8, own: Thread, other: Thread) -> Changed
+fn in_look(x: u8, o: u8, own: Thread, other: Thread) -> Change
     requires { ⌜ findSender own ≡ foundAs o ⌝ }
     ensures { λ r. ⌜ Acted (decideIn look x own other) x own other r ⌝ }
 {
@@ -109,7 +108,7 @@ fn in_look(x: u8, o: u8, own: Thread, other: Thread) -> Changed
         return actions::go_idle(own, other);
     }
     if flags.mark {
-        return actions::abort_receive(threads::RECEIVE_CANCELLED, own, other);
+        return actions::end_by(Ending::ReceiveCancelled, own, other);
     }
     if o == threads::NOBODY {
         return look_alone(x, own, other);
@@ -118,18 +117,18 @@ fn in_look(x: u8, o: u8, own: Thread, other: Thread) -> Changed
 }
 
 // Look, and no sender is acceptable.
-fn look_alone(x: u8, own: Thread, other: Thread) -> Changed
+fn look_alone(x: u8, own: Thread, other: Thread) -> Change
     requires { ⌜ LooksOn own none ⌝ }
     ensures { λ r. ⌜ Acted (decideIn look x own other) x own other r ⌝ }
 {
     if own.left == 0 {
-        return actions::abort_receive(threads::RECEIVE_TIME_OVER, own, other);
+        return actions::end_by(Ending::ReceiveTimeOver, own, other);
     }
     actions::stay_with(Answer::Asleep, own, other)
 }
 
 // Look, and the first acceptable sender is s.
-fn look_at_sender(x: u8, s: u8, own: Thread, other: Thread) -> Changed
+fn look_at_sender(x: u8, s: u8, own: Thread, other: Thread) -> Change
     requires { ⌜ LooksOn own (some s) ⌝ }
     ensures { λ r. ⌜ Acted (decideIn look x own other) x own other r ⌝ }
 {
@@ -143,14 +142,14 @@ fn look_at_sender(x: u8, s: u8, own: Thread, other: Thread) -> Changed
 }
 
 // Wake: clear the sender's poll.
-fn in_wake(x: u8, own: Thread, other: Thread) -> Changed
+fn in_wake(x: u8, own: Thread, other: Thread) -> Change
     ensures { λ r. ⌜ Acted (decideIn wake x own other) x own other r ⌝ }
 {
     actions::clear_poll(own, other)
 }
 
 // Unlock: free the sender's lock.
-fn in_unlock(x: u8, own: Thread, other: Thread) -> Changed
+fn in_unlock(x: u8, own: Thread, other: Thread) -> Change
     ensures { λ r. ⌜ Acted (decideIn unlock x own other) x own other r ⌝ }
 {
     actions::free_sender(own, other)
@@ -177,8 +176,8 @@ pub fn other_number(own: Thread) -> u8
 }
 
 // A step of thread x, whose lock is free, with the other thread o and its eight words.
-pub fn step_threads(x: u8, o: u8, own: Thread, other: Thread, words: &mut [u32]) -> Changed
-    requires { ⌜ Fit x o own other ⌝ }
+pub fn step_threads(x: u8, o: u8, own: Thread, other: Thread, words: &mut [u32]) -> Change
+    requires { ⌜ Fit o own ⌝ }
     requires { ⌜ length (now words) ≡ 8 ⌝ }
     ensures acted { λ r. ⌜ Acted (decideIn (phaseOf (own .phase)) x own other) x own other r ⌝ }
     ensures words { λ _. ⌜ now (words .exit) ≡ wordsAfter own (now (words .entry)) ⌝ }

@@ -1,6 +1,7 @@
 use mathlib.Core.Path.{refl}
-use borrow.Author.Needs.{needs}
 use Rattle.model.specs.Step.{replyOf, ownAfter, otherAfter}
+use Rattle.actions.specs.Acted.{keeping, ownChanged, otherChanged}
+use borrow.Author.Needs.{needs}
 use Rattle.actions.proofs.copy_word.Statement.{statement}
 use Rattle.actions.proofs.copy_word.Tie as tie
 
@@ -19,15 +20,18 @@ mul-words-2 c = search needs
 slice-write-words : tie.Need-slice-write-words
 slice-write-words c = search needs
 
-add-mine : tie.Need-add-mine
-add-mine c = search needs
+keeping-requires : tie.Need-keeping-requires
+keeping-requires c κs = search needs
+
+add-c : tie.Need-add-c
+add-c c = search needs
 
 same-length : tie.Need-same-length
 same-length c = search needs
 
 returns : tie.Need-returns
-unfolding replyOf ownAfter otherAfter
-returns c = (λ x. record { own = refl; other = refl; answers = refl }, refl)
+unfolding replyOf ownAfter otherAfter keeping ownChanged otherChanged
+returns c = (λ x. rw (c .before .keeping .ensures) (record { told = (refl, refl); answers = refl }), refl)
 
 pub copy-word-spec : {M : Type 1} → statement M
 copy-word-spec =
@@ -38,6 +42,7 @@ copy-word-spec =
     array-read-words
     mul-words-2
     slice-write-words
-    add-mine
+    keeping-requires
+    add-c
     same-length
     returns)

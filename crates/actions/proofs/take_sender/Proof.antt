@@ -1,11 +1,16 @@
 use mathlib.Core.Path.{refl}
+use borrow.Author.Needs.{needs}
 use Rattle.model.specs.Step.{replyOf, ownAfter, otherAfter}
+use Rattle.actions.specs.Acted.{keeping, ownChanged, otherChanged}
 use Rattle.actions.proofs.take_sender.Statement.{statement}
 use Rattle.actions.proofs.take_sender.Tie as tie
 
+keeping-requires : tie.Need-keeping-requires
+keeping-requires c κs = search needs
+
 returns : tie.Need-returns
-unfolding replyOf ownAfter otherAfter
-returns c = record { own = refl; other = refl; answers = refl }
+unfolding replyOf ownAfter otherAfter keeping ownChanged otherChanged
+returns c = rw (c .keeping .ensures) (record { told = (refl, refl); answers = refl })
 
 pub take-sender-spec : {M : Type 1} → statement M
-take-sender-spec = tie.close (tie.spec returns)
+take-sender-spec = tie.close (tie.spec keeping-requires returns)

@@ -1,7 +1,9 @@
-use borrow.Author.Needs.{needs}
+use native.Mathlib.Omega.{arith}
+use mathlib.Core.Path.{sym, _∙_}
 use Rattle.model.specs.Threads.{at, put}
+use borrow.Author.Needs.{needs}
+use Rattle.core.proofs.Stepped.{slice-eight, in-array, queue-fits, held-stays, other-in-array, slice-ends, fits-here, ending-waits, stepped-on, stepped-to-end}
 use Rattle.core.proofs.Performed.{accepted-shaped}
-use Rattle.core.proofs.Stepped.{slice-eight, in-array, queue-fits, held-stays, other-in-array, slice-ends, fits-here, stepped}
 use Rattle.core.proofs.step.Statement.{statement}
 use Rattle.core.proofs.step.Tie as tie
 
@@ -14,15 +16,11 @@ element-copy-out-own c = in-array (c .before .args .x) _ (c .before .pre) (accep
 
 returns : tie.Need-returns
 unfolding at
-returns c =
-    let asked = c .before .before .before .before .pre in
-    held-stays (c .before .before .before .before .args .x) _ asked (accepted-shaped _ _ asked _ (c .before .before .before .before .good .0)) (c .if1 .taken)
+returns c = held-stays (c .before .before .before .before .args .x) _ (c .before .before .before .before .pre) (accepted-shaped _ _ (c .before .before .before .before .pre) _ (c .before .before .before .before .good .0)) (c .if1 .taken)
 
 other-number-requires : tie.Need-other-number-requires
 unfolding at
-other-number-requires c κs =
-    let asked = c .before .before .before .before .pre in
-    queue-fits (c .before .before .before .before .args .x) _ asked (accepted-shaped _ _ asked _ (c .before .before .before .before .good .0))
+other-number-requires c κs = queue-fits (c .before .before .before .before .args .x) _ (c .before .before .before .before .pre) (accepted-shaped _ _ (c .before .before .before .before .pre) _ (c .before .before .before .before .good .0))
 
 other-or-own-requires : tie.Need-other-or-own-requires
 other-or-own-requires c κs = search needs
@@ -35,9 +33,7 @@ mul-other c = search needs
 
 element-copy-out-other : tie.Need-element-copy-out-other
 unfolding at
-element-copy-out-other c =
-    let asked = c .before .before .before .before .before .before .pre in
-    other-in-array (c .before .before .before .before .before .before .args .x) _ asked (accepted-shaped _ _ asked _ (c .before .before .before .before .before .before .good .0)) _ _ (c .before .other-number .ensures) (c .other-or-own .ensures)
+element-copy-out-other c = other-in-array (c .before .before .before .before .before .before .args .x) _ (c .before .before .before .before .before .before .pre) (accepted-shaped _ _ (c .before .before .before .before .before .before .pre) _ (c .before .before .before .before .before .before .good .0)) _ _ (c .before .other-number .ensures) (c .other-or-own .ensures)
 
 mul-a : tie.Need-mul-a
 mul-a c = search needs
@@ -56,47 +52,66 @@ part-step-threads-start c = search needs
 
 part-step-threads-end : tie.Need-part-step-threads-end
 unfolding at
-part-step-threads-end c =
-    let asked = c .before .before .before .before .before .before .before .pre in
-    slice-ends (c .before .before .before .before .before .before .before .args .x) _ asked (accepted-shaped _ _ asked _ (c .before .before .before .before .before .before .before .good .0)) _ _ (c .before .before .other-number .ensures) (c .before .other-or-own .ensures)
+part-step-threads-end c = slice-ends (c .before .before .before .before .before .before .before .args .x) _ (c .before .before .before .before .before .before .before .pre) (accepted-shaped _ _ (c .before .before .before .before .before .before .before .pre) _ (c .before .before .before .before .before .before .before .good .0)) _ _ (c .before .before .other-number .ensures) (c .before .other-or-own .ensures)
 
 step-threads-requires : tie.Need-step-threads-requires
 unfolding at
-step-threads-requires c κs =
-    let a = c .before .before .before .before .before .before .before .before .args in
-    let asked = c .before .before .before .before .before .before .before .before .pre in
-    let typed = c .before .before .before .before .before .before .before .before .good in
-    let other-number-result = c .before .before .before .other-number .ensures in
-    let other-or-own-result = c .before .before .other-or-own .ensures in
-    (fits-here (a .x) _ asked (accepted-shaped _ _ asked _ (typed .0)) _ _ other-number-result other-or-own-result, slice-eight (a .x) _ asked (accepted-shaped _ _ asked _ (typed .0)) _ _ other-number-result other-or-own-result)
+step-threads-requires c κs = (fits-here (c .before .before .before .before .before .before .before .before .args .x) _ (c .before .before .before .before .before .before .before .before .pre) (accepted-shaped _ _ (c .before .before .before .before .before .before .before .before .pre) _ (c .before .before .before .before .before .before .before .before .good .0)) _ _ (c .before .before .before .other-number .ensures) (c .before .before .other-or-own .ensures), slice-eight (c .before .before .before .before .before .before .before .before .args .x) _ (c .before .before .before .before .before .before .before .before .pre) (accepted-shaped _ _ (c .before .before .before .before .before .before .before .before .pre) _ (c .before .before .before .before .before .before .before .before .good .0)) _ _ (c .before .before .before .other-number .ensures) (c .before .before .other-or-own .ensures))
+
+is-ending-requires : tie.Need-is-ending-requires
+is-ending-requires c κs = search needs
+
+end-threads-requires : tie.Need-end-threads-requires
+unfolding at
+end-threads-requires c κs = ending-waits (c .before .before .before .before .before .before .before .before .before .before .before .before .before .args .x) _ (c .before .before .before .before .before .before .before .before .before .before .before .before .before .pre) (accepted-shaped _ _ (c .before .before .before .before .before .before .before .before .before .before .before .before .before .pre) _ (c .before .before .before .before .before .before .before .before .before .before .before .before .before .good .0)) _ _ (c .before .before .before .before .before .before .before .before .other-number .ensures) (c .before .before .before .before .before .before .before .other-or-own .ensures) (c .before .before .before .before .before .before .before .before .before .if1 .left) (c .before .before .before .before .step-threads .result) (c .before .before .before .before .step-threads .ensures .0)
 
 mul-theirs : tie.Need-mul-theirs
 mul-theirs c = search needs
 
 element-set-from-theirs : tie.Need-element-set-from-theirs
 unfolding at
-element-set-from-theirs c =
-    let asked = c .before .before .before .before .before .before .before .before .before .before .before .before .before .pre in
-    other-in-array (c .before .before .before .before .before .before .before .before .before .before .before .before .before .args .x) _ asked (accepted-shaped _ _ asked _ (c .before .before .before .before .before .before .before .before .before .before .before .before .before .good .0)) _ _ (c .before .before .before .before .before .before .before .before .other-number .ensures) (c .before .before .before .before .before .before .before .other-or-own .ensures)
+element-set-from-theirs c = other-in-array (c .before .before .before .before .before .before .before .before .before .before .before .before .before .before .before .before .args .x) _ (c .before .before .before .before .before .before .before .before .before .before .before .before .before .before .before .before .pre) (accepted-shaped _ _ (c .before .before .before .before .before .before .before .before .before .before .before .before .before .before .before .before .pre) _ (c .before .before .before .before .before .before .before .before .before .before .before .before .before .before .before .before .good .0)) _ _ (c .before .before .before .before .before .before .before .before .before .before .before .other-number .ensures) (c .before .before .before .before .before .before .before .before .before .before .other-or-own .ensures)
 
 mul-mine : tie.Need-mul-mine
-mul-mine c = search needs
+mul-mine c = omega (arith, in-array (c .before .before .before .before .before .before .before .before .before .before .before .before .before .before .before .before .args .x) _ (c .before .before .before .before .before .before .before .before .before .before .before .before .before .before .before .before .pre) (accepted-shaped _ _ (c .before .before .before .before .before .before .before .before .before .before .before .before .before .before .before .before .pre) _ (c .before .before .before .before .before .before .before .before .before .before .before .before .before .before .before .before .good .0)))
 
 element-set-from-mine : tie.Need-element-set-from-mine
 unfolding at
-element-set-from-mine c =
-    let asked = c .before .before .before .before .before .before .before .before .before .before .before .before .before .pre in
-    in-array (c .before .before .before .before .before .before .before .before .before .before .before .before .before .args .x) _ asked (accepted-shaped _ _ asked _ (c .before .before .before .before .before .before .before .before .before .before .before .before .before .good .0))
+element-set-from-mine c = in-array (c .before .before .before .before .before .before .before .before .before .before .before .before .before .before .before .before .args .x) _ (c .before .before .before .before .before .before .before .before .before .before .before .before .before .before .before .before .pre) (accepted-shaped _ _ (c .before .before .before .before .before .before .before .before .before .before .before .before .before .before .before .before .pre) _ (c .before .before .before .before .before .before .before .before .before .before .before .before .before .before .before .before .good .0))
 
 same-length : tie.Need-same-length
 same-length c = search needs
 
 returns-2 : tie.Need-returns-2
 unfolding at put
-returns-2 c =
-    let asked = c .before .before .before .before .before .before .before .before .before .before .before .before .before .pre in
-    let step-threads-result = c .before .before .before .before .step-threads .ensures in
-    stepped (c .before .before .before .before .before .before .before .before .before .before .before .before .before .args .x) _ asked (accepted-shaped _ _ asked _ (c .before .before .before .before .before .before .before .before .before .before .before .before .before .good .0)) _ _ (c .before .before .before .before .before .before .before .before .other-number .ensures) (c .before .before .before .before .before .before .before .other-or-own .ensures) (c .before .before .before .before .before .before .before .before .before .if1 .left) (c .before .before .before .before .step-threads .result) _ (step-threads-result .0) (step-threads-result .1)
+returns-2 c = stepped-to-end (c .before .before .before .before .before .before .before .before .before .before .before .before .before .before .before .before .args .x) _ (c .before .before .before .before .before .before .before .before .before .before .before .before .before .before .before .before .pre) (accepted-shaped _ _ (c .before .before .before .before .before .before .before .before .before .before .before .before .before .before .before .before .pre) _ (c .before .before .before .before .before .before .before .before .before .before .before .before .before .before .before .before .good .0)) _ _ (c .before .before .before .before .before .before .before .before .before .before .before .other-number .ensures) (c .before .before .before .before .before .before .before .before .before .before .other-or-own .ensures) (c .before .before .before .before .before .before .before .before .before .before .before .before .if1 .left) (c .before .before .before .before .before .before .before .step-threads .result) (c .before .before .before .before .before .before .before .step-threads .ensures .0) _ (c .before .before .before .before .before .before .before .step-threads .ensures .1) _ _ (sym (c .before .before .before .if2 .taken) ∙ c .before .before .before .before .is-ending .ensures) (c .before .before .end-threads .ensures)
+
+change-other-requires : tie.Need-change-other-requires
+change-other-requires c κs = search needs
+
+mul-next : tie.Need-mul-next
+mul-next c = search needs
+
+element-set-from-next : tie.Need-element-set-from-next
+unfolding at
+element-set-from-next c = other-in-array (c .before .before .before .before .before .before .before .before .before .before .before .before .before .before .args .x) _ (c .before .before .before .before .before .before .before .before .before .before .before .before .before .before .pre) (accepted-shaped _ _ (c .before .before .before .before .before .before .before .before .before .before .before .before .before .before .pre) _ (c .before .before .before .before .before .before .before .before .before .before .before .before .before .before .good .0)) _ _ (c .before .before .before .before .before .before .before .before .before .other-number .ensures) (c .before .before .before .before .before .before .before .before .other-or-own .ensures)
+
+change-own-requires : tie.Need-change-own-requires
+change-own-requires c κs = search needs
+
+mul-t30 : tie.Need-mul-t30
+mul-t30 c = omega (arith, in-array (c .before .before .before .before .before .before .before .before .before .before .before .before .before .before .before .args .x) _ (c .before .before .before .before .before .before .before .before .before .before .before .before .before .before .before .pre) (accepted-shaped _ _ (c .before .before .before .before .before .before .before .before .before .before .before .before .before .before .before .pre) _ (c .before .before .before .before .before .before .before .before .before .before .before .before .before .before .before .good .0)))
+
+element-set-from-next-2 : tie.Need-element-set-from-next-2
+unfolding at
+element-set-from-next-2 c = in-array (c .before .before .before .before .before .before .before .before .before .before .before .before .before .before .before .args .x) _ (c .before .before .before .before .before .before .before .before .before .before .before .before .before .before .before .pre) (accepted-shaped _ _ (c .before .before .before .before .before .before .before .before .before .before .before .before .before .before .before .pre) _ (c .before .before .before .before .before .before .before .before .before .before .before .before .before .before .before .good .0))
+
+same-length-2 : tie.Need-same-length-2
+same-length-2 c = search needs
+
+returns-3 : tie.Need-returns-3
+unfolding at put
+returns-3 c = stepped-on (c .before .before .before .before .before .before .before .before .before .before .before .before .before .before .before .args .x) _ (c .before .before .before .before .before .before .before .before .before .before .before .before .before .before .before .pre) (accepted-shaped _ _ (c .before .before .before .before .before .before .before .before .before .before .before .before .before .before .before .pre) _ (c .before .before .before .before .before .before .before .before .before .before .before .before .before .before .before .good .0)) _ _ (c .before .before .before .before .before .before .before .before .before .before .other-number .ensures) (c .before .before .before .before .before .before .before .before .before .other-or-own .ensures) (c .before .before .before .before .before .before .before .before .before .before .before .if1 .left) (c .before .before .before .before .before .before .step-threads .result) (c .before .before .before .before .before .before .step-threads .ensures .0) _ (c .before .before .before .before .before .before .step-threads .ensures .1) _ _ (sym (c .before .before .if2 .left) ∙ c .before .before .before .is-ending .ensures) (c .change-own .ensures) (c .before .change-other .ensures)
 
 pub step-spec : {M : Type 1} → statement M
 step-spec =
@@ -117,9 +132,19 @@ step-spec =
     part-step-threads-start
     part-step-threads-end
     step-threads-requires
+    is-ending-requires
+    end-threads-requires
     mul-theirs
     element-set-from-theirs
     mul-mine
     element-set-from-mine
     same-length
-    returns-2)
+    returns-2
+    change-other-requires
+    mul-next
+    element-set-from-next
+    change-own-requires
+    mul-t30
+    element-set-from-next-2
+    same-length-2
+    returns-3)

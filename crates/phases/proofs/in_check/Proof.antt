@@ -1,4 +1,4 @@
-use mathlib.Core.Path.{sym, _∙_}
+use mathlib.Core.Path.{refl, sym, _∙_}
 use borrow.Author.Needs.{needs}
 use borrow.Author.Tests.{eqb-true, eqb-false}
 use Rattle.laws.proofs.Decisions.{check-cancelled, check-copies, check-late, check-releases}
@@ -9,11 +9,11 @@ use Rattle.phases.proofs.in_check.Tie as tie
 is-ready-requires : tie.Need-is-ready-requires
 is-ready-requires c κs = search needs
 
-abort-send-requires : tie.Need-abort-send-requires
-abort-send-requires c κs = search needs
+end-by-requires : tie.Need-end-by-requires
+end-by-requires c κs = search needs
 
 returns : tie.Need-returns
-returns c = let a = c .before .before .before .before .args in settled _ _ _ _ (check-cancelled (a .x) (a .own) (a .other) (c .before .if1 .taken)) (c .abort-send .ensures)
+returns c = let a = c .before .before .before .before .args in settled _ _ _ _ (check-cancelled (a .x) (a .own) (a .other) (c .before .if1 .taken)) (c .end-by .ensures (a .x) _ refl)
 
 start-copy-requires : tie.Need-start-copy-requires
 start-copy-requires c κs = search needs
@@ -21,11 +21,11 @@ start-copy-requires c κs = search needs
 returns-2 : tie.Need-returns-2
 returns-2 c = let a = c .before .before .before .before .before .args in settled _ _ _ _ (check-copies (a .x) (a .own) (a .other) (c .before .before .if1 .left) (sym (c .before .before .before .before .is-ready .ensures) ∙ c .before .if2 .taken)) (c .start-copy .ensures (a .x))
 
-abort-send-requires-2 : tie.Need-abort-send-requires-2
-abort-send-requires-2 c κs = search needs
+end-by-requires-2 : tie.Need-end-by-requires-2
+end-by-requires-2 c κs = search needs
 
 returns-3 : tie.Need-returns-3
-returns-3 c = let a = c .before .before .before .before .before .before .args in settled _ _ _ _ (check-late (a .x) (a .own) (a .other) (c .before .before .before .if1 .left) (sym (c .before .before .before .before .before .is-ready .ensures) ∙ c .before .before .if2 .left) (eqb-true _ _ (c .before .if3 .taken))) (c .abort-send2 .ensures)
+returns-3 c = let a = c .before .before .before .before .before .before .args in settled _ _ _ _ (check-late (a .x) (a .own) (a .other) (c .before .before .before .if1 .left) (sym (c .before .before .before .before .before .is-ready .ensures) ∙ c .before .before .if2 .left) (eqb-true _ _ (c .before .if3 .taken))) (c .end-by2 .ensures (a .x) _ refl)
 
 go-to-release-requires : tie.Need-go-to-release-requires
 go-to-release-requires c κs = search needs
@@ -38,11 +38,11 @@ in-check-spec =
     tie.close
     (tie.spec
     is-ready-requires
-    abort-send-requires
+    end-by-requires
     returns
     start-copy-requires
     returns-2
-    abort-send-requires-2
+    end-by-requires-2
     returns-3
     go-to-release-requires
     returns-4)

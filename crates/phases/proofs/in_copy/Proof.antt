@@ -1,10 +1,10 @@
-use mathlib.Core.Path.{sym, _∙_}
+use mathlib.Core.Path.{refl, sym, _∙_}
 use borrow.Author.Needs.{needs}
 use borrow.Author.Tests.{lt-ltb, le-ltb}
 use Rattle.laws.proofs.Decisions.{copy-word, copy-calls, copy-sends}
 use Rattle.laws.proofs.Lists.{cond-true, cond-false}
-use Rattle.phases.proofs.Settled.{settled}
 use Rattle.phases.specs.Fit.{wordAdded}
+use Rattle.phases.proofs.Settled.{settled}
 use Rattle.phases.proofs.in_copy.Statement.{statement}
 use Rattle.phases.proofs.in_copy.Tie as tie
 
@@ -25,25 +25,25 @@ returns c =
 has-receive-requires : tie.Need-has-receive-requires
 has-receive-requires c κs = search needs
 
-finish-call-requires : tie.Need-finish-call-requires
-finish-call-requires c κs = search needs
+end-by-requires : tie.Need-end-by-requires
+end-by-requires c κs = search needs
 
 returns-2 : tie.Need-returns-2
 unfolding wordAdded
 returns-2 c =
     let a = c .before .before .before .before .before .before .before .before .before .args in
     let test1 = c .before .before .before .if1 .left in
-    (settled _ _ _ _ (copy-calls (a .x) (a .own) (a .other) test1 (sym (c .before .before .has-receive .ensures) ∙ c .before .if2 .taken)) (c .finish-call .ensures), sym (cond-false _ _ _ (le-ltb _ _ test1)))
+    (settled _ _ _ _ (copy-calls (a .x) (a .own) (a .other) test1 (sym (c .before .before .has-receive .ensures) ∙ c .before .if2 .taken)) (c .end-by .ensures (a .x) _ refl), sym (cond-false _ _ _ (le-ltb _ _ test1)))
 
-finish-send-requires : tie.Need-finish-send-requires
-finish-send-requires c κs = search needs
+end-by-requires-2 : tie.Need-end-by-requires-2
+end-by-requires-2 c κs = search needs
 
 returns-3 : tie.Need-returns-3
 unfolding wordAdded
 returns-3 c =
     let a = c .before .before .before .before .before .before .before .before .before .args in
     let test1 = c .before .before .before .if1 .left in
-    (settled _ _ _ _ (copy-sends (a .x) (a .own) (a .other) test1 (sym (c .before .before .has-receive .ensures) ∙ c .before .if2 .left)) (c .finish-send .ensures), sym (cond-false _ _ _ (le-ltb _ _ test1)))
+    (settled _ _ _ _ (copy-sends (a .x) (a .own) (a .other) test1 (sym (c .before .before .has-receive .ensures) ∙ c .before .if2 .left)) (c .end-by2 .ensures (a .x) _ refl), sym (cond-false _ _ _ (le-ltb _ _ test1)))
 
 pub in-copy-spec : {M : Type 1} → statement M
 in-copy-spec =
@@ -53,7 +53,7 @@ in-copy-spec =
     same-length
     returns
     has-receive-requires
-    finish-call-requires
+    end-by-requires
     returns-2
-    finish-send-requires
+    end-by-requires-2
     returns-3)

@@ -1,10 +1,10 @@
-use mathlib.Core.Path.{_∙_}
+use mathlib.Core.Path.{refl, _∙_}
 use borrow.Author.Needs.{needs}
 use borrow.Author.Tests.{not-true, not-false, eq-eqb, ne-eqb}
 use Rattle.laws.proofs.Decisions.{look-ended, look-cancelled}
 use Rattle.laws.proofs.Lists.{cond-true, cond-false}
-use Rattle.phases.proofs.Settled.{settled}
 use Rattle.phases.specs.Fit.{foundAs}
+use Rattle.phases.proofs.Settled.{settled}
 use Rattle.phases.proofs.in_look.Statement.{statement}
 use Rattle.phases.proofs.in_look.Tie as tie
 
@@ -16,13 +16,13 @@ returns c =
     let a = c .before .before .before .before .args in
     settled _ _ _ _ (look-ended (a .x) (a .own) (a .other) (not-true (a .own .flags .ipc) (c .before .if1 .taken))) (c .go-idle .ensures (a .x))
 
-abort-receive-requires : tie.Need-abort-receive-requires
-abort-receive-requires c κs = search needs
+end-by-requires : tie.Need-end-by-requires
+end-by-requires c κs = search needs
 
 returns-2 : tie.Need-returns-2
 returns-2 c =
     let a = c .before .before .before .before .before .args in
-    settled _ _ _ _ (look-cancelled (a .x) (a .own) (a .other) (not-false (a .own .flags .ipc) (c .before .before .if1 .left)) (c .before .if2 .taken)) (c .abort-receive .ensures (a .x))
+    settled _ _ _ _ (look-cancelled (a .x) (a .own) (a .other) (not-false (a .own .flags .ipc) (c .before .before .if1 .left)) (c .before .if2 .taken)) (c .end-by .ensures (a .x) _ refl)
 
 look-alone-requires : tie.Need-look-alone-requires
 unfolding foundAs
@@ -44,7 +44,7 @@ in-look-spec =
     (tie.spec
     go-idle-requires
     returns
-    abort-receive-requires
+    end-by-requires
     returns-2
     look-alone-requires
     returns-3

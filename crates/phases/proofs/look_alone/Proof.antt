@@ -6,14 +6,14 @@ use Rattle.phases.proofs.Settled.{settled}
 use Rattle.phases.proofs.look_alone.Statement.{statement}
 use Rattle.phases.proofs.look_alone.Tie as tie
 
-abort-receive-requires : tie.Need-abort-receive-requires
-abort-receive-requires c κs = search needs
+end-by-requires : tie.Need-end-by-requires
+end-by-requires c κs = search needs
 
 returns : tie.Need-returns
 returns c =
     let a = c .before .before .before .args in
     let asked = c .before .before .before .pre in
-    settled _ _ _ _ (look-late (a .x) (a .own) (a .other) (asked .runs) (asked .unmarked) (asked .found) (c .before .if1 .taken)) (c .abort-receive .ensures (a .x))
+    settled _ _ _ _ (look-late (a .x) (a .own) (a .other) (asked .runs) (asked .unmarked) (asked .found) (c .before .if1 .taken)) (c .end-by .ensures (a .x) _ refl)
 
 stay-with-requires : tie.Need-stay-with-requires
 stay-with-requires c κs = search needs
@@ -25,4 +25,4 @@ returns-2 c =
     settled _ _ _ _ (look-waits (a .x) (a .own) (a .other) (asked .runs) (asked .unmarked) (asked .found) (c .before .if1 .left)) (c .stay-with .ensures (a .x) asleep refl)
 
 pub look-alone-spec : {M : Type 1} → statement M
-look-alone-spec = tie.close (tie.spec abort-receive-requires returns stay-with-requires returns-2)
+look-alone-spec = tie.close (tie.spec end-by-requires returns stay-with-requires returns-2)

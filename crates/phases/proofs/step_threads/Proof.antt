@@ -15,13 +15,13 @@ in-lock-requires : tie.Need-in-lock-requires
 in-lock-requires c κs = search needs
 
 in-check-requires : tie.Need-in-check-requires
-in-check-requires c κs = c .before .before .pre .0 .waits (in-number check _ (c .match .keys3))
+in-check-requires c κs = search needs
 
 in-copy-requires : tie.Need-in-copy-requires
 in-copy-requires c κs =
     let asked = c .before .before .before .pre in
     let match-result = c .before .match in
-    (asked .0 .copies (in-number copy _ (match-result .keys4)), (asked .0 .counts (in-number copy _ (match-result .keys4)), search needs))
+    (asked .0 .counts (in-number copy _ (match-result .keys4)), search needs)
 
 in-release-requires : tie.Need-in-release-requires
 in-release-requires c κs = search needs

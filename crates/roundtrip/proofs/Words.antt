@@ -1,0 +1,117 @@
+-- A word as four bytes, "low byte first", and back.
+use mathlib.Core.Path.{_≡_, refl, sym, ap, _∙_}
+use mathlib.Core.List.{List, [], _∷_, _++_, map, map-append, append-nil}
+use Prim.Native.Nat.{ℕ, zero, suc, _+_, _*_, _/_, _%_, _≤_, _<_}
+use native.Mathlib.Omega.{arith}
+use native.Mathlib.Nat.{div-div-eq-div-mul}
+use lib.ListN.{length, getD, take, drop, length-drop}
+use lib.Seq.{getD-drop, drop-append-add, drop-drop, take-all, take-add}
+use Rattle.model.specs.Lists.{concat, upTo}
+use Rattle.model.specs.Schedule.{byte, wordBytes, wordAt}
+use Rattle.laws.proofs.Lists.{take-up-to}
+use Rattle.roundtrip.specs.Fits.{AllUnder, Bytes}
+use Rattle.roundtrip.proofs.Lists.{concat-append, drop-under, append-under, nil-under}
+
+-- the word of the first four bytes
+abbrev pub firstWord : List ℕ → ℕ
+firstWord bytes = byte bytes 0 + 256 * byte bytes 1 + 65536 * byte bytes 2 + 16777216 * byte bytes 3
+
+-- a word is put together again from its bytes
+pub word-read : (word : ℕ) (rest : List ℕ) → word < 0x1_0000_0000 → firstWord (wordBytes word ++ rest) ≡ word
+unfolding wordBytes
+word-read word rest small = rw (← div-div-eq-div-mul word 256 256, ← div-div-eq-div-mul word 65536 256) (omega arith)
+
+-- bytes are the bytes of their word
+pub word-written : (a b c d : ℕ) → a < 256 → b < 256 → c < 256 → d < 256 → wordBytes (a + 256 * b + 65536 * c + 16777216 * d) ≡ a ∷ b ∷ c ∷ d ∷ []
+unfolding wordBytes
+word-written a b c d i j k l =
+    let word : ℕ = a + 256 * b + 65536 * c + 16777216 * d in
+    let second : word / 256 ≡ b + 256 * c + 65536 * d = omega arith in
+    let third : word / 65536 ≡ c + 256 * d = sym (div-div-eq-div-mul word 256 256) ∙ rw second (omega arith) in
+    let fourth : word / 16777216 ≡ d = sym (div-div-eq-div-mul word 65536 256) ∙ rw third (omega arith) in
+    let e0 : word % 256 ≡ a = omega arith in
+    let e1 : word / 256 % 256 ≡ b = rw second (omega arith) in
+    let e2 : word / 65536 % 256 ≡ c = rw third (omega arith) in
+    let e3 : word / 16777216 % 256 ≡ d = rw fourth (omega arith) in
+    rw (e0, e1, e2, e3) refl
+
+-- the bytes of a word are bytes
+word-bytes : (word : ℕ) → Bytes (wordBytes word)
+unfolding wordBytes
+word-bytes word zero = omega arith
+word-bytes word (suc zero) = omega arith
+word-bytes word (suc (suc zero)) = omega arith
+word-bytes word (suc (suc (suc zero))) = omega arith
+word-bytes word (suc (suc (suc (suc i)))) = omega arith
+
+-- a byte of what is left past n bytes
+byte-past : (n k m : ℕ) (bytes : List ℕ) → n + k ≡ m → byte (drop n bytes) k ≡ byte bytes m
+byte-past n k m bytes e = getD-drop n bytes k 0 ∙ ap (byte bytes) e
+
+-- the i-th word stands past ten bytes and i words
+pub word-place : (bytes : List ℕ) (i : ℕ) → wordAt bytes i ≡ firstWord (drop (10 + 4 * i) bytes)
+unfolding wordAt
+word-place bytes i =
+    let n : ℕ = 10 + 4 * i in
+    rw (byte-past n 0 n bytes (omega arith), byte-past n 1 (11 + 4 * i) bytes (omega arith), byte-past n 2 (12 + 4 * i) bytes (omega arith), byte-past n 3 (13 + 4 * i) bytes (omega arith))
+
+-- ---- words in a row
+-- past a word comes what follows it
+past-word : (word n : ℕ) (rest : List ℕ) → drop (4 + n) (wordBytes word ++ rest) ≡ drop n rest
+unfolding wordBytes
+past-word word n rest = drop-append-add (wordBytes word) rest n
+
+-- past i words comes the i-th
+words-past : (words : List ℕ) (i : ℕ) → i < length words → drop (4 * i) (concat (map wordBytes words)) ≡ wordBytes (getD words i 0) ++ concat (map wordBytes (drop (suc i) words))
+unfolding concat
+words-past [] i l = absurd (omega arith)
+words-past (w ∷ words) zero l = refl
+words-past (w ∷ words) (suc i) l =
+    let e : 4 * suc i ≡ 4 + 4 * i = omega arith in
+    rw e (past-word w (4 * i) (concat (map wordBytes words)) ∙ words-past words i (omega arith))
+
+-- they take four bytes each
+pub words-length : (words : List ℕ) → length (concat (map wordBytes words)) ≡ 4 * length words
+unfolding concat wordBytes
+words-length [] = refl
+words-length (w ∷ words) = omega (arith, words-length words)
+
+-- their bytes are bytes
+pub words-bytes : (words : List ℕ) → Bytes (concat (map wordBytes words))
+unfolding concat
+words-bytes [] = nil-under 256 (omega arith)
+words-bytes (w ∷ words) = append-under 256 (wordBytes w) (concat (map wordBytes words)) (word-bytes w) (words-bytes words)
+
+-- words that were written past ten bytes are read
+pub words-read : (head words : List ℕ) (k : ℕ) → length head ≡ 10 → length words ≡ k → AllUnder 0x1_0000_0000 words → upTo k (wordAt (head ++ concat (map wordBytes words))) ≡ words
+words-read head words k ten long u = sym (take-up-to words 0 k (wordAt bytes) (omega arith) (λ i l. sym (read i (omega arith)))) ∙ take-all k words (omega arith)
+  where
+    bytes : List ℕ
+    bytes = head ++ concat (map wordBytes words)
+
+    read : (i : ℕ) → i < length words → wordAt bytes i ≡ getD words i 0
+    read i l = word-place bytes i ∙ ap firstWord (ap (λ (n : ℕ). drop (n + 4 * i) bytes) (sym ten) ∙ drop-append-add head (concat (map wordBytes words)) (4 * i) ∙ words-past words i l)
+        ∙ word-read (getD words i 0) (concat (map wordBytes (drop (suc i) words))) (u i)
+
+-- the first four bytes, one by one
+pub four-bytes : (bytes : List ℕ) → 4 ≤ length bytes → take 4 bytes ≡ byte bytes 0 ∷ byte bytes 1 ∷ byte bytes 2 ∷ byte bytes 3 ∷ []
+unfolding upTo
+four-bytes bytes long = take-up-to bytes 0 4 (byte bytes) long (λ j l. refl)
+
+-- they are those of their word
+first-written : (bytes : List ℕ) → Bytes bytes → 4 ≤ length bytes → wordBytes (firstWord bytes) ≡ take 4 bytes
+first-written bytes u long = word-written (byte bytes 0) (byte bytes 1) (byte bytes 2) (byte bytes 3) (u 0) (u 1) (u 2) (u 3) ∙ sym (four-bytes bytes long)
+
+-- words that were read past ten bytes are written
+pub words-written : (bytes : List ℕ) → Bytes bytes → (k : ℕ) → 10 + 4 * k ≤ length bytes → concat (map wordBytes (upTo k (wordAt bytes))) ≡ take (4 * k) (drop 10 bytes)
+unfolding concat upTo
+words-written bytes u zero long = refl
+words-written bytes u (suc k) long =
+    let e : 4 * suc k ≡ 4 * k + 4 = omega arith in
+    rw (e, take-add (4 * k) 4 (drop 10 bytes), map-append, concat-append, words-written bytes u k (omega arith), append-nil, drop-drop (4 * k) 10 bytes, word-place)
+    (ap (λ q. take (4 * k) (drop 10 bytes) ++ q) (first-written (drop (10 + 4 * k) bytes) (drop-under 256 (10 + 4 * k) bytes u) (rw length-drop (omega arith))))
+
+-- a word of bytes is within 32 bits
+pub word-small : (bytes : List ℕ) → Bytes bytes → (i : ℕ) → wordAt bytes i < 0x1_0000_0000
+unfolding wordAt
+word-small bytes u i = omega (arith, u (10 + 4 * i), u (11 + 4 * i), u (12 + 4 * i), u (13 + 4 * i))

@@ -1,0 +1,1 @@
+// No code: what is written is read back, and what is read is written back.
