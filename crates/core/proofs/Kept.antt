@@ -56,12 +56,16 @@ pub record Runnable (s : State) : Type 0 where
 pub new-runnable : (n : ℕ) (store : List ℕ) → makeRefusal n ≡ 0 → length store ≡ 8 * n → Runnable (state (newTable n) store)
 new-runnable n store made fit = record { checked = new-checked n made; words = fit ∙ ap (λ (k : ℕ). 8 * k) (sym (new-size n)) }
 
--- a call that keeps its promise leaves such a state where it found one: a loop that has one needs no check
-pub keeps-runnable : (c : Call) (s : State) (a : Answer) (after : State) → Promise c s a after → Runnable s → Runnable after
-keeps-runnable c s a after kept r = subst Runnable (sym (kept .leaves)) (record {
+-- every call, refused or not, leaves such a state where it found one
+pub next-runnable : (c : Call) (s : State) → Runnable s → Runnable (next c s)
+next-runnable c s r = record {
   checked = keeps-checked c s (r .checked);
   words = next-store-length c s ∙ r .words ∙ ap (λ (k : ℕ). 8 * k) (sym (next-size c s));
-})
+}
+
+-- and so does one that keeps its promise: a loop that has such a state needs no check
+pub keeps-runnable : (c : Call) (s : State) (a : Answer) (after : State) → Promise c s a after → Runnable s → Runnable after
+keeps-runnable c s a after kept r = subst Runnable (sym (kept .leaves)) (next-runnable c s r)
 
 -- and as many threads
 pub keeps-size : (c : Call) (s : State) (a : Answer) (after : State) → Promise c s a after → after .table .n ≡ s .table .n

@@ -97,48 +97,47 @@ module _ (x : ℕ) (o : Operation) (s : State) (e : refusal (begin x o) s ≡ 0)
     unfolding edit
     begin-receives alone h is = begin-performed _ (rw is (sym (begins-to-receive x o (s .table) alone)))
 
-    -- ---- with the place j whose queue is joined, as the code has it: g is the thread there and h thread x, afterwards
-    module _ (j : ℕ) (g h : Thread) (joins-is : g ≡ queueJoined (s .table .n) x o (at (s .table) j)) (begins-is : h ≡ ownBegun (s .table .n) o (at (put j g (s .table)) x)) where
+    -- ---- with n threads and the place j whose queue is joined, as the code has them: g is the thread there and h thread x, afterwards
+    module _ (n : ℕ) (sized : s .table .n ≡ n) (j : ℕ) (g h : Thread) (joins-is : g ≡ queueJoined n x o (at (s .table) j)) (begins-is : h ≡ ownBegun n o (at (put j g (s .table)) x)) where
       -- where no queue is joined, the table is still what it was
-      none-joined : joins (s .table .n) o ≡ false → put j g (s .table) ≡ s .table
+      none-joined : joins n o ≡ false → put j g (s .table) ≡ s .table
       unfolding queueJoined
       none-joined no-queue = ap (λ (k : Thread). put j k (s .table)) (joins-is ∙ cond-false _ _ _ no-queue) ∙ put-own j (s .table)
 
       -- with a target of n or more, or without a send part
-      begin-alone : (k : Thread → Thread) → joins (s .table .n) o ≡ false → ((r : Thread) → ownBegun (s .table .n) o r ≡ k r)
-          → (h ≡ k (at (s .table) x) → Promise (begin x o) s Accepted (state (put x h (s .table)) words))
+      begin-alone : (k : Thread → Thread) → joins n o ≡ false → ((r : Thread) → ownBegun n o r ≡ k r) → (h ≡ k (at (s .table) x) → Promise (begin x o) s Accepted (state (put x h (s .table)) words))
           → Promise (begin x o) s Accepted (state (put x h (put j g (s .table))) words)
       begin-alone k no-queue does promised = subst (λ (u : Table). Promise (begin x o) s Accepted (state (put x h u) words)) (sym (none-joined no-queue))
           (promised (begins-is ∙ does _ ∙ ap (λ (u : Table). k (at u x)) (none-joined no-queue)))
 
       -- the promise
-      pub begin-leaves : j ≡ joinedPlace (s .table .n) x o → Promise (begin x o) s Accepted (state (put x h (put j g (s .table))) words)
+      pub begin-leaves : j ≡ joinedPlace n x o → Promise (begin x o) s Accepted (state (put x h (put j g (s .table))) words)
       unfolding joins joinedPlace queueJoined ownBegun
       begin-leaves place = by (o .send .present)
-          (λ sends. by (ltb (o .send .target) (s .table .n))
-          (λ near. let joining : joins (s .table .n) o ≡ true = rw (sends, near) refl in
+          (λ sends. by (ltb (o .send .target) n)
+          (λ near. let joining : joins n o ≡ true = rw (sends, near) refl in
           let is : j ≡ o .send .target = place ∙ cond-true _ _ _ joining in
-          rw is (begin-sends sends (ltb-true _ _ near) g h
+          rw is (begin-sends sends (omega (arith, ltb-true (o .send .target) n near, sized)) g h
           (joins-is ∙ cond-true _ _ _ joining ∙ ap (λ (k : ℕ). joined x (at (s .table) k)) is)
           (begins-is ∙ cond-true _ _ _ sends ∙ cond-true _ _ _ near ∙ ap (λ (k : ℕ). begun o lock (at (put k g (s .table)) x)) is)))
-          (λ far. begin-alone (λ r. ended (codeOnly noReceiver) r) (rw (sends, far) refl) (λ r. cond-true _ _ _ sends ∙ cond-false _ _ _ far) (begin-beyond sends (ltb-false _ _ far) h)))
+          (λ far. begin-alone (λ r. ended (codeOnly noReceiver) r) (rw (sends, far) refl) (λ r. cond-true _ _ _ sends ∙ cond-false _ _ _ far) (begin-beyond sends (omega (arith, ltb-false (o .send .target) n far, sized)) h)))
           (λ alone. begin-alone (λ r. begun o look r) (rw alone refl) (λ r. cond-false _ _ _ alone) (begin-receives alone h))
 
-  -- the thread whose queue is joined has a place in the array
-  module _ (j : ℕ) (is : j ≡ joinedPlace (s .table .n) x o) where
-    -- it is the target, or thread x itself
+  -- the thread whose queue is joined
+  module _ (n : ℕ) (sized : s .table .n ≡ n) (j : ℕ) (is : j ≡ joinedPlace n x o) where
+    -- has a place in the array
     pub joined-in-array : j < 32
     unfolding joins joinedPlace
     joined-in-array = rw is (by (o .send .present)
-        (λ sends. by (ltb (o .send .target) (s .table .n))
-        (λ near. rw (sends, near) (target-place (ltb-true _ _ near)))
+        (λ sends. by (ltb (o .send .target) n)
+        (λ near. rw (sends, near) (target-place (omega (arith, ltb-true (o .send .target) n near, sized))))
         (λ far. rw (sends, far) begin-place))
         (λ alone. rw alone begin-place))
 
     -- and room in its queue
-    pub joined-room : Shaped (s .table) → joins (s .table .n) o ≡ true → at (s .table) j .queue .len < 32
+    pub joined-room : Shaped (s .table) → joins n o ≡ true → at (s .table) j .queue .len < 32
     unfolding joins joinedPlace
-    joined-room whole joining = rw (is ∙ cond-true _ _ _ joining) (target-room whole (ltb-true _ _ (and-right (o .send .present) _ joining)))
+    joined-room whole joining = rw (is ∙ cond-true _ _ _ joining) (target-room whole (omega (arith, ltb-true (o .send .target) n (and-right (o .send .present) _ joining), sized)))
 
 -- ---- cancel
 -- the thread has a place in the array

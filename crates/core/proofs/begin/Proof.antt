@@ -1,3 +1,4 @@
+use mathlib.Core.Path.{refl}
 use native.Mathlib.Omega.{arith}
 use Rattle.model.specs.Threads.{at, put}
 use borrow.Author.Needs.{needs}
@@ -18,17 +19,17 @@ mul-other : tie.Need-mul-other
 mul-other c = search needs
 
 element-copy-out-other : tie.Need-element-copy-out-other
-element-copy-out-other c = joined-in-array _ _ _ (c .before .before .before .before .before .before .pre) _ (c .joined-place .ensures)
+element-copy-out-other c = joined-in-array _ _ _ (c .before .before .before .before .before .before .pre) _ refl _ (c .joined-place .ensures)
 
 join-queue-requires : tie.Need-join-queue-requires
 unfolding at
-join-queue-requires c κs = joined-room _ _ _ (c .before .before .before .before .before .before .before .pre) _ (c .before .joined-place .ensures) (accepted-shaped _ _ (c .before .before .before .before .before .before .before .pre) _ (c .before .before .before .before .before .before .before .good .0))
+join-queue-requires c κs = joined-room _ _ _ (c .before .before .before .before .before .before .before .pre) _ refl _ (c .before .joined-place .ensures) (accepted-shaped _ _ (c .before .before .before .before .before .before .before .pre) _ (c .before .before .before .before .before .before .before .good .0))
 
 mul-own : tie.Need-mul-own
 mul-own c = search needs
 
 element-set-from-own : tie.Need-element-set-from-own
-element-set-from-own c = joined-in-array _ _ _ (c .before .before .before .before .before .before .before .before .pre) _ (c .before .before .joined-place .ensures)
+element-set-from-own c = joined-in-array _ _ _ (c .before .before .before .before .before .before .before .before .pre) _ refl _ (c .before .before .joined-place .ensures)
 
 mul-own-2 : tie.Need-mul-own-2
 mul-own-2 c = search needs
@@ -50,7 +51,7 @@ same-length c = search needs
 
 returns : tie.Need-returns
 unfolding at put
-returns c = begin-leaves _ _ _ (c .before .before .before .before .before .before .before .before .before .before .pre) _ (c .before .before .before .before .before .before .before .zero-thread .ensures) _ _ _ (c .before .before .join-queue .ensures) (c .begin-own .ensures) (c .before .before .before .before .joined-place .ensures)
+returns c = begin-leaves _ _ _ (c .before .before .before .before .before .before .before .before .before .before .pre) _ (c .before .before .before .before .before .before .before .zero-thread .ensures) _ refl _ _ _ (c .before .before .join-queue .ensures) (c .begin-own .ensures) (c .before .before .before .before .joined-place .ensures)
 
 pub begin-spec : {M : Type 1} → statement M
 begin-spec =

@@ -1,0 +1,6 @@
+pub mod Playing
+pub mod Fronts
+pub mod Ends
+pub mod Cuts
+pub mod WholeText
+pub mod Pieces

@@ -1,0 +1,1 @@
+// No code: a schedule that comes in pieces is played as it is played whole.

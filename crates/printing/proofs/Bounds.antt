@@ -1,0 +1,126 @@
+-- How long the printed texts are at most, by the widths of what is printed.
+use mathlib.Core.List.{List, [], _∷_}
+use Prim.Native.Nat.{ℕ, zero, suc, _+_, _*_, _/_, _%_, _^_, _≤_, _<_}
+use native.Mathlib.Omega.{arith}
+use native.Mathlib.Numerals.{add-one}
+use native.Mathlib.Nat.{div-lt-iff-lt-mul}
+use lib.ListN.{length, take, drop, getD, length-append, length-take}
+use lib.Seq.{getD-drop}
+use lib.IntN.{ℤ, pos, negsuc, natAbs}
+use lib.Dec.{ltb}
+use borrow.Author.Tests.{lt-ltb}
+use Rattle.model.specs.declared.Outcome.{Outcome}
+use Rattle.model.specs.Lists.{upTo, concat}
+use Rattle.model.specs.Threads.{at, wordsAt}
+use Rattle.model.specs.Calls.{State}
+use Rattle.model.specs.Promise.{view}
+use Rattle.model.specs.Bondtrace.{ascii, digit, digits, decimal, signed, Tally, threadLine, finalText, badLine}
+use Rattle.model.proofs.Laws.{by}
+use Rattle.printing.specs.Texts.{spaced, outcomeText, threadsText, longestOutcome, longestWord, longestLine, longestText, longestBadLine, Narrow}
+use Rattle.printing.proofs.Texts.{concat-snoc, threads-none, line-parts}
+
+-- ---- numbers
+-- a number below 10 to the k + 1 has at most k + 1 digits
+digits-short : (most k n : ℕ) → n < 10 ^ suc k → length (digits most n) ≤ suc k
+unfolding digits
+digits-short zero k n small = omega arith
+digits-short (suc most) zero n small = let h : n < 10 = omega arith in rw (lt-ltb n 10 h) (omega arith)
+digits-short (suc most) (suc k) n small = by (ltb n 10)
+    (λ e. rw e (omega arith))
+    (λ e. rw e (omega (arith, length-append (digits most (n / 10)) (digit (n % 10) ∷ []), digits-short most k (n / 10) (div-lt-iff-lt-mul (omega arith) .1 (omega arith)))))
+
+-- the same of its text
+pub decimal-short : (k n : ℕ) → n < 10 ^ suc k → length (decimal n) ≤ suc k
+unfolding decimal
+decimal-short k n small = digits-short (suc n) k n small
+
+-- a code of at most k + 1 digits has one byte more, for its sign
+pub signed-short : (k : ℕ) (code : ℤ) → natAbs code < 10 ^ suc k → length (signed code) ≤ suc (suc k)
+unfolding signed ascii upTo
+signed-short k (pos n) small = omega (arith, decimal-short k n small)
+signed-short k (negsuc n) small = omega (arith, decimal-short k (suc n) small)
+
+-- ---- a thread's line
+-- its number, and its code, source and count
+pub outcome-short : (x : ℕ) (u : Outcome) → x < 2 ^ 8 → natAbs (u .code) < 2 ^ 32 → u .source < 2 ^ 8 → u .count < 2 ^ 8 → length (outcomeText x u) ≤ longestOutcome
+unfolding outcomeText ascii upTo
+outcome-short x u number code source count =
+    simp length-append
+    (omega (arith, decimal-short 2 x (omega arith), signed-short 9 (u .code) (omega arith), decimal-short 2 (u .source) (omega arith), decimal-short 2 (u .count) (omega arith)))
+
+-- words, each behind a space
+pub spaced-short : (words : List ℕ) → ((i : ℕ) → getD words i 0 < 2 ^ 32) → length (spaced words) ≤ longestWord * length words
+unfolding spaced concat ascii upTo
+spaced-short [] small = omega arith
+spaced-short (word ∷ words) small =
+    simp length-append
+    (omega (arith, decimal-short 9 word (omega (arith, small 0)), spaced-short words (λ i. small (suc i))))
+
+-- they are at most eight
+few-words : (s : State) (x : ℕ) → length (view s x .words) ≤ 8
+unfolding view wordsAt
+few-words s x =
+    let own = take 8 (drop (8 * x) (s .store)) in
+    omega (arith, length-take (at (s .table) x .outcome .count) own, length-take 8 (drop (8 * x) (s .store)))
+
+-- the line of such an outcome and such words
+pub line-short : (s : State) (x : ℕ) → length (outcomeText x (at (s .table) x .outcome)) ≤ longestOutcome → length (spaced (view s x .words)) ≤ longestWord * length (view s x .words)
+    → length (threadLine s x) ≤ longestLine
+line-short s x outcome words = rw line-parts (simp length-append (omega (arith, few-words s x)))
+
+-- ---- the whole text
+-- no line
+pub none-short : (s : State) → length (threadsText s 0) ≤ longestLine * 0
+none-short s = rw threads-none (omega arith)
+
+-- one line more
+pub one-more-short : (s : State) (x : ℕ) → length (threadsText s x) ≤ longestLine * x → length (threadLine s x) ≤ longestLine → length (threadsText s (x + 1)) ≤ longestLine * (x + 1)
+unfolding threadsText upTo
+one-more-short s x lines line = rw (add-one x, concat-snoc) (omega (arith, length-append (concat (upTo x (threadLine s))) (threadLine s x)))
+
+-- n lines
+threads-short : (s : State) (n : ℕ) → ((x : ℕ) → x < n → length (threadLine s x) ≤ longestLine) → length (threadsText s n) ≤ longestLine * n
+threads-short s zero short = none-short s
+threads-short s (suc n) short = rw (add-one n) at (one-more-short s n (threads-short s n (λ x below. short x (omega arith))) (short n (omega arith)))
+
+-- the first line and n lines
+pub final-short : (p : Tally) → p .records < 2 ^ 64 → p .refused < 2 ^ 64 → length (threadsText (p .now) (p .now .table .n)) ≤ longestLine * p .now .table .n → length (finalText p) ≤ longestText (p .now .table .n)
+unfolding finalText threadsText ascii upTo
+final-short p records refused lines = simp length-append (omega (arith, decimal-short 19 (p .records) (omega arith), decimal-short 19 (p .refused) (omega arith)))
+
+-- the bad line
+pub bad-short : (number place : ℕ) → number < 2 ^ 8 → place < 2 ^ 64 → length (badLine number place) ≤ longestBadLine
+unfolding badLine ascii upTo
+bad-short number place small near = simp length-append (omega (arith, decimal-short 2 number (omega arith), decimal-short 19 place (omega arith)))
+
+-- ---- every state that code can hold
+-- each of the first n numbers of a list is below a bound that the list's are below
+take-small : (n most : ℕ) (l : List ℕ) → ((i : ℕ) → getD l i 0 < most) → (i : ℕ) → getD (take n l) i 0 < most
+take-small zero most l small i = omega (arith, small 0)
+take-small (suc n) most [] small i = small i
+take-small (suc n) most (a ∷ l) small zero = small 0
+take-small (suc n) most (a ∷ l) small (suc i) = take-small n most l (λ j. small (suc j)) i
+
+-- the shown words of a narrow state
+shown-small : (s : State) → Narrow s → (x i : ℕ) → getD (view s x .words) i 0 < 2 ^ 32
+unfolding view wordsAt
+shown-small s narrow x =
+    let own = drop (8 * x) (s .store) in
+    take-small (at (s .table) x .outcome .count) (2 ^ 32) (take 8 own) (take-small 8 (2 ^ 32) own (λ i. rw getD-drop (narrow .words (8 * x + i))))
+
+-- a line of one
+line-fits : (s : State) → Narrow s → (x : ℕ) → x < 2 ^ 8 → length (threadLine s x) ≤ longestLine
+line-fits s narrow x small =
+    line-short s x
+    (outcome-short x (at (s .table) x .outcome) small (narrow .codes x) (narrow .sources x) (narrow .counts x))
+    (spaced-short (view s x .words) (shown-small s narrow x))
+
+-- 4096 bytes hold the final text of at most 32 threads
+pub final-fits : (p : Tally) → Narrow (p .now) → p .now .table .n ≤ 32 → p .records < 2 ^ 64 → p .refused < 2 ^ 64 → length (finalText p) ≤ 4096
+final-fits p narrow few records refused =
+    let lines = threads-short (p .now) (p .now .table .n) (λ x below. line-fits (p .now) narrow x (omega arith)) in
+    omega (arith, final-short p records refused lines)
+
+-- and the bad line
+pub bad-fits : (number place : ℕ) → number < 2 ^ 8 → place < 2 ^ 64 → length (badLine number place) ≤ 4096
+bad-fits number place small near = omega (arith, bad-short number place small near)

@@ -1,0 +1,49 @@
+use borrow.Author.Needs.{needs}
+use Rattle.printing.proofs.Texts.{shown-there}
+use Rattle.printing.proofs.shown_words.Statement.{statement}
+use Rattle.printing.proofs.shown_words.Tie as tie
+
+mul-lesser : tie.Need-mul-lesser
+mul-lesser c = search needs
+
+lesser-requires : tie.Need-lesser-requires
+lesser-requires c κs = search needs
+
+lesser-requires-2 : tie.Need-lesser-requires-2
+lesser-requires-2 c κs = search needs
+
+add-lesser : tie.Need-add-lesser
+add-lesser c = search needs
+
+lesser-requires-3 : tie.Need-lesser-requires-3
+lesser-requires-3 c κs = search needs
+
+mul-result : tie.Need-mul-result
+mul-result c = search needs
+
+sub-result : tie.Need-sub-result
+sub-result c = search needs
+
+part-result-start : tie.Need-part-result-start
+part-result-start c = search needs
+
+part-result-end : tie.Need-part-result-end
+part-result-end c = search needs
+
+returns : tie.Need-returns
+returns c = shown-there _ _ _ (c .before .before .before .lesser .ensures) (c .before .before .lesser2 .ensures) (c .before .lesser3 .ensures)
+
+pub shown-words-spec : {M : Type 1} → statement M
+shown-words-spec =
+    tie.close
+    (tie.spec
+    mul-lesser
+    lesser-requires
+    lesser-requires-2
+    add-lesser
+    lesser-requires-3
+    mul-result
+    sub-result
+    part-result-start
+    part-result-end
+    returns)

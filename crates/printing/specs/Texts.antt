@@ -1,0 +1,57 @@
+-- Parts of the model's texts, as the code writes them, and the most bytes that each has.
+use mathlib.Core.List.{List, _++_, map}
+use Prim.Native.Nat.{ℕ, _+_, _*_, _^_, _<_}
+use lib.ListN.{getD}
+use lib.IntN.{natAbs}
+use Rattle.model.specs.declared.Outcome.{Outcome}
+use Rattle.model.specs.declared.Table.{Table}
+use Rattle.model.specs.Lists.{upTo, concat}
+use Rattle.model.specs.Threads.{at}
+use Rattle.model.specs.Calls.{State}
+use Rattle.model.specs.Promise.{state}
+use Rattle.model.specs.Bondtrace.{ascii, decimal, signed, Tally, threadLine}
+
+-- ---- parts
+-- words, each behind a space
+unfoldable pub spaced : List ℕ → List ℕ
+spaced words = concat (map (λ word. ascii " " ++ decimal word) words)
+
+-- the number of a thread, and its code, source and count
+unfoldable pub outcomeText : ℕ → Outcome → List ℕ
+outcomeText x u = decimal x ++ ascii " " ++ signed (u .code) ++ ascii " " ++ decimal (u .source) ++ ascii " " ++ decimal (u .count)
+
+-- the lines of the first n threads
+unfoldable pub threadsText : State → ℕ → List ℕ
+threadsText s n = concat (upTo n (threadLine s))
+
+-- a tally by its parts, as a contract names them
+abbrev pub tally : Table → List ℕ → ℕ → ℕ → Tally
+tally t store records refused = record { now = state t store; records = records; refused = refused }
+
+-- ---- the most bytes that they have, by the widths of what is printed
+-- number, code, source and count with single spaces: 3 + 1 + 11 + 1 + 3 + 1 + 3
+abbrev pub longestOutcome : ℕ
+longestOutcome = 23
+
+-- a word behind a space: 1 + 10
+abbrev pub longestWord : ℕ
+longestWord = 11
+
+-- a thread's line, with eight words and the line's end
+abbrev pub longestLine : ℕ
+longestLine = longestOutcome + 8 * longestWord + 1
+
+-- the final text of n threads: 8 + 20 + 9 + 20 + 1 for the first line, and n lines
+abbrev pub longestText : ℕ → ℕ
+longestText n = 58 + longestLine * n
+
+-- the bad line: 4 + 3 + 4 + 20 + 1
+abbrev pub longestBadLine : ℕ
+longestBadLine = 32
+
+-- what the widths of a thread's fields and of a word say of every state that code can hold
+pub record Narrow (s : State) : Type 0 where
+  pub codes : (x : ℕ) → natAbs (at (s .table) x .outcome .code) < 2 ^ 32
+  pub sources : (x : ℕ) → at (s .table) x .outcome .source < 2 ^ 8
+  pub counts : (x : ℕ) → at (s .table) x .outcome .count < 2 ^ 8
+  pub words : (i : ℕ) → getD (s .store) i 0 < 2 ^ 32

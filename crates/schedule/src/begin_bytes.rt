@@ -1,0 +1,118 @@
+// The bytes of a begin past its head: which parts its operation has, their fields, and eight words.
+ghost use mathlib.Core.Path.{_≡_};
+ghost use mathlib.Core.Bool.{_||_};
+ghost use Prim.Native.Nat.{_≤_, _<_};
+ghost use lib.ListN.{length};
+ghost use lib.Dec.{eqb, ltb};
+ghost use Rattle.model.specs.Lists.{allBelow, upTo};
+ghost use Rattle.model.specs.Schedule.{wordAt, sendBit, receiveBit, openBit, lawfulBegin, receiveOf};
+use model::Receive;
+use model::Wait;
+
+// The parts byte of an operation with every part.
+const ALL_PARTS: u8 = 7;
+
+// The parts byte has a send part.
+pub fn send_bit(parts: u8) -> bool
+    ensures { λ r. ⌜ r ≡ sendBit parts ⌝ }
+{
+    parts % 2 == 1
+}
+
+// The parts byte has a receive part.
+fn receive_bit(parts: u8) -> bool
+    ensures { λ r. ⌜ r ≡ receiveBit parts ⌝ }
+{
+    parts / 2 % 2 == 1
+}
+
+// The parts byte says that the receive part is open.
+fn open_bit(parts: u8) -> bool
+    ensures { λ r. ⌜ r ≡ openBit parts ⌝ }
+{
+    parts / 4 % 2 == 1
+}
+
+// A byte as wide as a word.
+fn wide(b: u8) -> u32
+    ensures { λ r. ⌜ (r ≡ b) × (r < 256) ⌝ }
+{
+    b as u32
+}
+
+// Word i of a begin's eight, low byte first.
+fn word_at(bytes: &[u8], i: usize) -> u32
+    requires { ⌜ 42 ≤ length (now bytes) ⌝ }
+    requires { ⌜ i < 8 ⌝ }
+    ensures { λ r. ⌜ r ≡ wordAt (now (bytes .entry)) i ⌝ }
+{
+    wide(bytes[10 + 4 * i])
+        + 256 * wide(bytes[11 + 4 * i])
+        + 65536 * wide(bytes[12 + 4 * i])
+        + 16777216 * wide(bytes[13 + 4 * i])
+}
+
+// The words past the count are 0.
+fn no_word_past(bytes: &[u8], count: u8) -> bool
+    requires { ⌜ 42 ≤ length (now bytes) ⌝ }
+    ensures { λ r. ⌜ r ≡ allBelow 8 (λ i. ltb i count || eqb (wordAt (now (bytes .entry)) i) 0) ⌝ }
+{
+    let mut i = count as usize;
+    while i < 8 {
+        if word_at(bytes, i) != 0 {
+            return false;
+        }
+        i += 1;
+    }
+    true
+}
+
+// The rules of a begin.
+pub fn lawful_begin(bytes: &[u8]) -> bool
+    requires { ⌜ 42 ≤ length (now bytes) ⌝ }
+    ensures { λ r. ⌜ r ≡ lawfulBegin (now (bytes .entry)) ⌝ }
+{
+    let parts = bytes[4];
+    let sends = send_bit(parts);
+    let receives = receive_bit(parts);
+    let open = open_bit(parts);
+    (parts <= ALL_PARTS)
+        & (!open | receives)
+        & (sends | ((bytes[5] == 0) & (bytes[7] == 0) & (bytes[8] == 0)))
+        & (receives | (bytes[9] == 0))
+        & ((receives & !open) | (bytes[6] == 0))
+        & no_word_past(bytes, bytes[7])
+}
+
+// The eight words of a begin.
+pub fn words_at(bytes: &[u8]) -> [u32; 8]
+    requires { ⌜ 42 ≤ length (now bytes) ⌝ }
+    ensures { λ r. ⌜ r ≡ upTo 8 (wordAt (now (bytes .entry))) ⌝ }
+{
+    let mut words = [0u32; 8];
+    let mut i: usize = 0;
+    while i < 8 {
+        words[i] = word_at(bytes, i);
+        i += 1;
+    }
+    words
+}
+
+// The receive part of a begin.
+pub fn receive_at(bytes: &[u8]) -> Receive
+    requires { ⌜ 42 ≤ length (now bytes) ⌝ }
+    ensures { λ r. ⌜ r ≡ receiveOf (now (bytes .entry)) ⌝ }
+{
+    let parts = bytes[4];
+    if !receive_bit(parts) {
+        return Receive::Absent;
+    }
+    let wait = Wait {
+        time: bytes[9],
+        partner: bytes[6],
+    };
+    if open_bit(parts) {
+        return Receive::Open(wait);
+    }
+    Receive::Closed(wait)
+}

@@ -1,0 +1,156 @@
+// One record of a schedule, read from bytes: document 01, "Schedule bytes".
+mod begin_bytes;
+
+ghost use mathlib.Core.Path.{_≡_};
+ghost use Prim.Native.Nat.{_≤_};
+ghost use lib.ListN.{length};
+ghost use Rattle.model.specs.Threads.{noOperation};
+ghost use Rattle.model.specs.Schedule.{recordLength, lawful, operationOf, front, DecodePromise};
+ghost use Rattle.schedule.specs.Heads.{lawfulHead};
+use model::Answer;
+use model::Decoded;
+use model::Operation;
+use model::Receive;
+use model::Record;
+use model::SendPart;
+
+// The kinds of records by their numbers.
+pub const TABLE: u8 = 0;
+
+pub const BEGIN: u8 = 1;
+
+pub const STEP: u8 = 2;
+
+pub const CANCEL: u8 = 3;
+
+pub const TICK: u8 = 4;
+
+// How many bytes a begin has.
+const BEGIN_BYTES: usize = 42;
+
+// How many bytes any other record has, and every record starts with.
+const HEAD_BYTES: usize = 4;
+
+// The two bytes that every record starts with.
+pub const FIRST_MARK: u8 = 0x4C;
+
+pub const SECOND_MARK: u8 = 0x34;
+
+// The refusal of a record that is unlawful, cut short, or longer than the bytes it is to be written to.
+pub const BAD_RECORD: u8 = 12;
+
+// How many bytes a record of a kind has.
+pub fn record_length(kind: u8) -> usize
+    ensures { λ r. ⌜ r ≡ recordLength kind ⌝ }
+{
+    if kind == BEGIN {
+        return BEGIN_BYTES;
+    }
+    HEAD_BYTES
+}
+
+// The rules of every record that its first four bytes decide.
+fn lawful_head(first: bool, bytes: &[u8]) -> bool
+    requires { ⌜ 4 ≤ length (now bytes) ⌝ }
+    ensures { λ r. ⌜ r ≡ lawfulHead first (now (bytes .entry)) ⌝ }
+{
+    let kind = bytes[2];
+    (bytes[0] == FIRST_MARK)
+        & (bytes[1] == SECOND_MARK)
+        & (kind <= TICK)
+        & (first == (kind == TABLE))
+        & (!(kind == TICK) | (bytes[3] == 0))
+}
+
+// The bytes start with a lawful record, which is the first of its schedule or a later one.
+pub fn is_lawful(first: bool, bytes: &[u8]) -> bool
+    ensures { λ r. ⌜ r ≡ lawful first (front (now (bytes .entry))) ⌝ }
+{
+    if bytes.len() < HEAD_BYTES {
+        return false;
+    }
+    if !lawful_head(first, bytes) {
+        return false;
+    }
+    if bytes[2] != BEGIN {
+        return true;
+    }
+    if bytes.len() < BEGIN_BYTES {
+        return false;
+    }
+    begin_bytes::lawful_begin(bytes)
+}
+
+// The operation of a begin.
+pub fn operation_at(bytes: &[u8]) -> Operation
+    requires { ⌜ 42 ≤ length (now bytes) ⌝ }
+    ensures { λ r. ⌜ r ≡ operationOf (now (bytes .entry)) ⌝ }
+{
+    let words = begin_bytes::words_at(bytes);
+    let send = SendPart {
+        present: begin_bytes::send_bit(bytes[4]),
+        target: bytes[5],
+        count: bytes[7],
+        time: bytes[8],
+        words: words,
+    };
+    let receive = begin_bytes::receive_at(bytes);
+    Operation {
+        send: send,
+        receive: receive,
+    }
+}
+
+// A record without an operation.
+fn bare_record(kind: u8, thread: u8) -> Record
+    ensures { λ r. ⌜ r ≡ record { kind = kind; thread = thread; op = noOperation } ⌝ }
+{
+    let send = SendPart {
+        present: false,
+        target: 0,
+        count: 0,
+        time: 0,
+        words: [0; 8],
+    };
+    let op = Operation {
+        send: send,
+        receive: Receive::Absent,
+    };
+    Record {
+        kind: kind,
+        thread: thread,
+        op: op,
+    }
+}
+
+// The record at the front of the bytes, which is the first of its schedule or a later one; refused, one that is all zero.
+pub fn read(first: bool, bytes: &[u8]) -> Decoded
+    ensures { λ r. ⌜ DecodePromise first (now (bytes .entry)) (r .answer) (r .item) ⌝ }
+{
+    if !is_lawful(first, bytes) {
+        let nothing = bare_record(0, 0);
+        return Decoded {
+            answer: Answer::Refused(BAD_RECORD),
+            item: nothing,
+        };
+    }
+    let kind = bytes[2];
+    let thread = bytes[3];
+    if kind != BEGIN {
+        let item = bare_record(kind, thread);
+        return Decoded {
+            answer: Answer::Accepted,
+            item: item,
+        };
+    }
+    let op = operation_at(bytes);
+    let item = Record {
+        kind: kind,
+        thread: thread,
+        op: op,
+    };
+    Decoded {
+        answer: Answer::Accepted,
+        item: item,
+    }
+}

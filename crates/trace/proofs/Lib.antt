@@ -1,0 +1,3 @@
+pub mod Records
+pub mod Turns
+pub mod Ways

@@ -1,0 +1,118 @@
+// A trace that goes on: the records of a schedule are played as their bytes come in, and the table is checked never again.
+ghost use mathlib.Core.Path.{_≡_};
+ghost use lib.ListN.{length};
+ghost use Rattle.model.specs.Schedule.{recordLength};
+ghost use Rattle.pieces.specs.Playing.{wholeRecord};
+ghost use Rattle.trace.specs.Trace.{Ready, PlayPromise};
+use model::Table;
+
+// A table, how many records were read and how many calls refused, and the byte at which the next record starts.
+pub struct Trace {
+    pub table: Table,
+    pub records: u64,
+    pub refused: u64,
+    pub place: u64,
+}
+
+// A trace, and whether an unlawful record stands where it stopped.
+pub struct Played {
+    pub trace: Trace,
+    pub bad: bool,
+}
+
+// The bytes of a whole record have come in.
+fn is_whole(bytes: &[u8]) -> bool
+    ensures { λ r. ⌜ r ≡ wholeRecord (now (bytes .entry)) ⌝ }
+{
+    if bytes.len() < 4 {
+        return false;
+    }
+    schedule::record_length(bytes[2]) <= bytes.len()
+}
+
+// Plays the lawful records at the front of the bytes, one after the other.
+pub fn play(from: Trace, store: &mut [u32], bytes: &[u8]) -> Played
+    requires { ⌜ Ready from (now store) (length (now bytes)) ⌝ }
+    ensures { λ r. ⌜ PlayPromise from (now (store .entry)) (now (bytes .entry)) (r .trace) (now (store .exit)) (r .bad) ⌝ }
+{
+    let mut now = from.table;
+    let n = now.n;
+    let mut records = from.records;
+    let mut refused = from.refused;
+    let mut at: usize = 0;
+    while schedule::is_lawful(false, &bytes[at..]) {
+        let record = &bytes[at..];
+        let kind = record[2];
+        let x = record[3];
+        at += schedule::record_length(kind);
+        records += 1;
+        if kind == schedule::TICK {
+            let ticked = core::tick(now);
+            now = ticked.table;
+            continue;
+        }
+        if n <= x {
+            refused += 1;
+            continue;
+        }
+        let i = x as usize;
+        if kind == schedule::STEP {
+            let own = now.threads[i];
+            if own.owner != threads::NOBODY {
+                continue;
+            }
+            let o = phases::other_number(own);
+            let j = core::other_or_own(o, x) as usize;
+            let other = now.threads[j];
+            let a = 8 * j;
+            let e = a + 8;
+            let change = phases::step_threads(x, o, own, other, &mut store[a..e]);
+            let ending = change.ending;
+            if actions::is_ending(ending) {
+                let mine = now.threads[i];
+                let theirs = now.threads[j];
+                let both = endings::end_threads(x, ending, mine, theirs);
+                let theirs = both.other;
+                let mine = both.own;
+                now.threads[j] = theirs;
+                now.threads[i] = mine;
+                continue;
+            }
+            now.threads[j] = actions::change_other(change, other);
+            now.threads[i] = actions::change_own(change, own);
+            continue;
+        }
+        let own = now.threads[i];
+        if kind == schedule::CANCEL {
+            if own.owner != threads::NOBODY {
+                refused += 1;
+                continue;
+            }
+            let cancelled = core::cancel(now, x);
+            now = cancelled.table;
+            continue;
+        }
+        let op = schedule::operation_at(record);
+        if refusals::begin_refusal(n, x, own, op) != 0 {
+            refused += 1;
+            continue;
+        }
+        words::zero_thread(store, x);
+        let j = begins::joined_place(n, x, op) as usize;
+        let target = now.threads[j];
+        now.threads[j] = begins::join_queue(n, x, op, target);
+        let mine = now.threads[i];
+        now.threads[i] = begins::begin_own(n, op, mine);
+    }
+    let bad = is_whole(&bytes[at..]);
+    let trace = Trace {
+        table: now,
+        records: records,
+        refused: refused,
+        place: from.place + at as u64,
+    };
+    Played {
+        trace: trace,
+        bad: bad,
+    }
+}

@@ -1,0 +1,159 @@
+// One record of a schedule, written as bytes: document 01, "Schedule bytes".
+ghost use mathlib.Core.Path.{_≡_};
+ghost use mathlib.Core.List.{_++_, map};
+ghost use Prim.Native.Nat.{_+_, _≤_};
+ghost use lib.ListN.{length, take, drop};
+ghost use Rattle.model.specs.Lists.{bit, concat};
+ghost use Rattle.model.specs.Schedule.{openPart, partnerOf, wordBytes, partsOf, allZero, EncodePromise};
+ghost use Rattle.writing.specs.Spelled.{spelled, isBare};
+use model::Answer;
+use model::Operation;
+use model::Receive;
+use model::Record;
+use schedule::BAD_RECORD;
+use schedule::BEGIN;
+use schedule::FIRST_MARK;
+use schedule::SECOND_MARK;
+
+// 1 for true, 0 for false.
+fn bit_of(b: bool) -> u8
+    ensures { λ r. ⌜ (r ≡ bit b) × (r ≤ 1) ⌝ }
+{
+    if b {
+        return 1;
+    }
+    0
+}
+
+// A receive part that is open.
+fn is_open(receive: Receive) -> bool
+    ensures { λ r. ⌜ r ≡ openPart receive ⌝ }
+{
+    match receive {
+        Receive::Absent => false,
+        Receive::Open(_) => true,
+        Receive::Closed(_) => false,
+    }
+}
+
+// The partner that a receive part holds; 0 without one.
+fn partner_of(receive: Receive) -> u8
+    ensures { λ r. ⌜ r ≡ partnerOf receive ⌝ }
+{
+    match receive {
+        Receive::Absent => 0,
+        Receive::Open(w) => w.partner,
+        Receive::Closed(w) => w.partner,
+    }
+}
+
+// The parts byte of an operation.
+fn parts_of(op: Operation) -> u8
+    ensures { λ r. ⌜ r ≡ partsOf op ⌝ }
+{
+    let send = op.send;
+    let receive = op.receive;
+    bit_of(send.present) + 2 * bit_of(threads::has_receive(receive)) + 4 * bit_of(is_open(receive))
+}
+
+// A word from a place on, low byte first.
+fn put_word(bytes: &mut [u8], start: usize, word: u32)
+    requires { ⌜ start + 4 ≤ length (now bytes) ⌝ }
+    ensures { λ _. ⌜ now (bytes .exit) ≡ take start (now (bytes .entry)) ++ wordBytes word ++ drop (start + 4) (now (bytes .entry)) ⌝ }
+{
+    bytes[start] = (word % 256) as u8;
+    bytes[start + 1] = (word / 256 % 256) as u8;
+    bytes[start + 2] = (word / 65536 % 256) as u8;
+    bytes[start + 3] = (word / 16777216 % 256) as u8;
+}
+
+// The eight words of a begin.
+fn put_words(bytes: &mut [u8], words: [u32; 8])
+    requires { ⌜ length (now bytes) ≡ 42 ⌝ }
+    ensures { λ _. ⌜ now (bytes .exit) ≡ take 10 (now (bytes .entry)) ++ concat (map wordBytes words) ⌝ }
+{
+    let mut i: usize = 0;
+    while i < 8 {
+        put_word(bytes, 10 + 4 * i, words[i]);
+        i += 1;
+    }
+}
+
+// A record as if it were a begin: its head, and the bytes of its operation.
+fn spell(item: Record) -> [u8; 42]
+    ensures { λ r. ⌜ r ≡ spelled item ⌝ }
+{
+    let op = item.op;
+    let send = op.send;
+    let receive = op.receive;
+    let words = send.words;
+    let mut bytes = [0u8; 42];
+    bytes[0] = FIRST_MARK;
+    bytes[1] = SECOND_MARK;
+    bytes[2] = item.kind;
+    bytes[3] = item.thread;
+    bytes[4] = parts_of(op);
+    bytes[5] = send.target;
+    bytes[6] = partner_of(receive);
+    bytes[7] = send.count;
+    bytes[8] = send.time;
+    bytes[9] = threads::receive_time(receive);
+    put_words(&mut bytes, words);
+    bytes
+}
+
+// Every byte is 0.
+fn all_zero(bytes: &[u8]) -> bool
+    ensures { λ r. ⌜ r ≡ allZero (now (bytes .entry)) ⌝ }
+{
+    let mut i: usize = 0;
+    while i < bytes.len() {
+        if bytes[i] != 0 {
+            return false;
+        }
+        i += 1;
+    }
+    true
+}
+
+// A record is a begin, or the bytes of its operation are 0.
+fn is_bare(kind: u8, bytes: &[u8]) -> bool
+    requires { ⌜ length (now bytes) ≡ 42 ⌝ }
+    ensures { λ r. ⌜ r ≡ isBare kind (now (bytes .entry)) ⌝ }
+{
+    if kind == BEGIN {
+        return true;
+    }
+    all_zero(&bytes[4..])
+}
+
+// Bytes over the first of others.
+fn copy_front(from: &[u8], to: &mut [u8])
+    requires { ⌜ length (now from) ≤ length (now to) ⌝ }
+    ensures { λ _. ⌜ now (to .exit) ≡ now (from .entry) ++ drop (length (now (from .entry))) (now (to .entry)) ⌝ }
+{
+    let mut i: usize = 0;
+    while i < from.len() {
+        to[i] = from[i];
+        i += 1;
+    }
+}
+
+// The record over the first bytes, which is the first of its schedule or a later one; refused, the bytes are as they were.
+pub fn write(first: bool, item: Record, bytes: &mut [u8]) -> Answer
+    ensures { λ r. ⌜ EncodePromise first item (now (bytes .entry)) r (now (bytes .exit)) ⌝ }
+{
+    let space = spell(item);
+    if !is_bare(item.kind, &space) {
+        return Answer::Refused(BAD_RECORD);
+    }
+    if !schedule::is_lawful(first, &space) {
+        return Answer::Refused(BAD_RECORD);
+    }
+    let n = schedule::record_length(item.kind);
+    if bytes.len() < n {
+        return Answer::Refused(BAD_RECORD);
+    }
+    copy_front(&space[..n], bytes);
+    Answer::Accepted
+}
