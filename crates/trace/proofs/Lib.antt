@@ -1,3 +1,4 @@
 pub mod Records
 pub mod Turns
 pub mod Ways
+pub mod Opening

@@ -22,7 +22,7 @@ use Rattle.pieces.specs.Pieces.{PlayedTo}
 use Rattle.pieces.proofs.Playing.{played-to-none, played-to-more, played-to-end}
 use Rattle.core.proofs.Kept.{Runnable, keeps-runnable, keeps-size}
 use Rattle.trace.specs.declared.Trace.{Trace}
-use Rattle.trace.specs.Trace.{tallyOf, Ready, PlayPromise}
+use Rattle.trace.specs.Trace.{tallyOf, Ready, PlayPromise, Carries}
 
 -- the bytes from a place on, as the code has them
 abbrev pub from-place : List ℕ → ℕ → List ℕ
@@ -166,3 +166,12 @@ module _ {from : Trace} {store₀ bytes : List ℕ} {n : ℕ} {store : List ℕ}
         takes = there ∙ ap (λ (q : Progress). from .place + q .taken) (sym ends);
         stops = tells ∙ ap wholeRecord (left-there bytes at) ∙ ap (λ (q : Progress). q .bad) (sym ends);
       }
+
+  -- and the trace can go on
+  pub goes-further : Ready from store₀ (length bytes) → n ≡ from .table .n → (place : ℕ) → place ≡ from .place + at → Carries from (length bytes) (record { table = now; records = records; refused = refused; place = place }) store
+  goes-further was sized place there = record {
+    ready = λ more room. record { runnable = G .runnable; fewer = G .fewer; counted = omega (arith, G .counted, was .counted, there); room = room };
+    onward = omega (arith, there);
+    within = omega (arith, there, G .within);
+    size = G .size ∙ sized;
+  }

@@ -1,9 +1,12 @@
 -- What playing a trace on relies on, and what it promises.
 use mathlib.Core.Path.{_≡_}
-use mathlib.Core.Bool.{Bool}
+use mathlib.Core.Bool.{Bool, true, cond}
 use mathlib.Core.List.{List}
 use Prim.Native.Nat.{ℕ, _+_, _≤_, _<_}
+use Rattle.model.specs.Threads.{newTable}
+use Rattle.model.specs.Refusals.{makeRefusal}
 use Rattle.model.specs.Promise.{state}
+use Rattle.model.specs.Schedule.{threadByte, front, lawful}
 use Rattle.model.specs.Bondtrace.{Tally}
 use Rattle.pieces.specs.Playing.{playedOn}
 use Rattle.core.proofs.Kept.{Runnable}
@@ -12,6 +15,18 @@ use Rattle.trace.specs.declared.Trace.{Trace}
 -- the table, the store and the counts of a trace
 unfoldable pub tallyOf : Trace → List ℕ → Tally
 tallyOf t store = record { now = state (t .table) store; records = t .records; refused = t .refused }
+
+-- the size of the table that the first record asks for; 0 where the bytes do not start with a lawful table record
+unfoldable pub openSize : List ℕ → ℕ
+openSize input = cond (lawful true (front input)) (threadByte input) 0
+
+-- the number by which the first record is refused, or 0
+unfoldable pub openRefusal : List ℕ → ℕ
+openRefusal input = cond (lawful true (front input)) (makeRefusal (threadByte input)) 12
+
+-- the trace behind a table record of n threads
+unfoldable pub opened : ℕ → Trace
+opened n = record { table = newTable n; records = 1; refused = 0; place = 4 }
 
 -- a trace that can go on by this many bytes: its table is checked, its store has the table's length, and its counts have room
 pub record Ready (t : Trace) (store : List ℕ) (bytes : ℕ) : Type 0 where
@@ -25,3 +40,10 @@ pub record PlayPromise (from : Trace) (store input : List ℕ) (to : Trace) (aft
   pub plays : tallyOf to after ≡ playedOn (tallyOf from store) input .tally
   pub takes : to .place ≡ from .place + playedOn (tallyOf from store) input .taken
   pub stops : bad ≡ playedOn (tallyOf from store) input .bad
+
+-- what a trace that was played is good for: it can go on, it came no further than the bytes, and it has as many threads
+pub record Carries (from : Trace) (bytes : ℕ) (to : Trace) (after : List ℕ) : Type 0 where
+  pub ready : (more : ℕ) → to .place + more < 18446744073709551616 → Ready to after more
+  pub onward : from .place ≤ to .place
+  pub within : to .place ≤ from .place + bytes
+  pub size : to .table .n ≡ from .table .n

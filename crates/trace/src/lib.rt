@@ -1,9 +1,10 @@
 // A trace that goes on: the records of a schedule are played as their bytes come in, and the table is checked never again.
 ghost use mathlib.Core.Path.{_≡_};
+ghost use mathlib.Core.List.{List};
+ghost use Prim.Native.Nat.{ℕ, _*_, _≤_, _<_};
 ghost use lib.ListN.{length};
-ghost use Rattle.model.specs.Schedule.{recordLength};
 ghost use Rattle.pieces.specs.Playing.{wholeRecord};
-ghost use Rattle.trace.specs.Trace.{Ready, PlayPromise};
+ghost use Rattle.trace.specs.Trace.{openSize, openRefusal, opened, Ready, PlayPromise, Carries};
 use model::Table;
 
 // A table, how many records were read and how many calls refused, and the byte at which the next record starts.
@@ -20,6 +21,43 @@ pub struct Played {
     pub bad: bool,
 }
 
+// A new trace, and the number by which its table record is refused, or 0.
+pub struct Opened {
+    pub number: u8,
+    pub trace: Trace,
+}
+
+// The trace behind a table record of n threads.
+fn fresh(n: u8) -> Trace
+    ensures { λ r. ⌜ r ≡ opened n ⌝ }
+{
+    Trace {
+        table: core::new_table(n),
+        records: 1,
+        refused: 0,
+        place: 4,
+    }
+}
+
+// Reads the table record at the front of the bytes.
+pub fn open(bytes: &[u8]) -> Opened
+    ensures number { λ r. ⌜ r .number ≡ openRefusal (now (bytes .entry)) ⌝ }
+    ensures trace { λ r. ⌜ r .trace ≡ opened (openSize (now (bytes .entry))) ⌝ }
+    ensures ready { λ r. ⌜ (r .number ≡ 0 → (4 ≤ length (now (bytes .entry))) × ((store : List ℕ) (more : ℕ) → length store ≡ 8 * r .trace .table .n → more < 65537 → Ready (r .trace) store more)) ⌝ }
+{
+    if !schedule::is_lawful(true, bytes) {
+        return Opened {
+            number: schedule::BAD_RECORD,
+            trace: fresh(0),
+        };
+    }
+    let n = bytes[3];
+    Opened {
+        number: refusals::size_refusal(n),
+        trace: fresh(n),
+    }
+}
+
 // The bytes of a whole record have come in.
 fn is_whole(bytes: &[u8]) -> bool
     ensures { λ r. ⌜ r ≡ wholeRecord (now (bytes .entry)) ⌝ }
@@ -33,7 +71,8 @@ fn is_whole(bytes: &[u8]) -> bool
 // Plays the lawful records at the front of the bytes, one after the other.
 pub fn play(from: Trace, store: &mut [u32], bytes: &[u8]) -> Played
     requires { ⌜ Ready from (now store) (length (now bytes)) ⌝ }
-    ensures { λ r. ⌜ PlayPromise from (now (store .entry)) (now (bytes .entry)) (r .trace) (now (store .exit)) (r .bad) ⌝ }
+    ensures played { λ r. ⌜ PlayPromise from (now (store .entry)) (now (bytes .entry)) (r .trace) (now (store .exit)) (r .bad) ⌝ }
+    ensures carries { λ r. ⌜ Carries from (length (now (bytes .entry))) (r .trace) (now (store .exit)) ⌝ }
 {
     let mut now = from.table;
     let n = now.n;

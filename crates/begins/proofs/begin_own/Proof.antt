@@ -1,9 +1,9 @@
-use Rattle.begins.specs.Begun.{ownBegun}
 use Rattle.laws.proofs.Lists.{cond-true, cond-false}
 use borrow.Author.Tests.{not-true, not-false, lt-ltb, le-ltb}
 use Rattle.model.specs.Threads.{lock, look}
 use mathlib.Core.Path.{refl, sym, _∙_}
 use borrow.Author.Needs.{needs}
+use Rattle.begins.specs.Begun.{ownBegun}
 use Rattle.begins.proofs.begin_own.Statement.{statement}
 use Rattle.begins.proofs.begin_own.Tie as tie
 

@@ -1,7 +1,7 @@
-use Rattle.begins.specs.Begun.{queueJoined}
 use Rattle.laws.proofs.Lists.{cond-true, cond-false}
 use mathlib.Core.Path.{sym, _∙_}
 use borrow.Author.Needs.{needs}
+use Rattle.begins.specs.Begun.{queueJoined}
 use Rattle.begins.proofs.join_queue.Statement.{statement}
 use Rattle.begins.proofs.join_queue.Tie as tie
 

@@ -1,7 +1,7 @@
-use Rattle.begins.specs.Begun.{joinedPlace}
 use Rattle.laws.proofs.Lists.{cond-true, cond-false}
 use mathlib.Core.Path.{sym, _∙_}
 use borrow.Author.Needs.{needs}
+use Rattle.begins.specs.Begun.{joinedPlace}
 use Rattle.begins.proofs.joined_place.Statement.{statement}
 use Rattle.begins.proofs.joined_place.Tie as tie
 

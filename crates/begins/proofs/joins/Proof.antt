@@ -1,5 +1,5 @@
-use Rattle.begins.specs.Begun.{joins}
 use mathlib.Core.Path.{refl}
+use Rattle.begins.specs.Begun.{joins}
 use Rattle.begins.proofs.joins.Statement.{statement}
 use Rattle.begins.proofs.joins.Tie as tie
 

@@ -23,7 +23,9 @@ element-copy-out-other c = joined-in-array _ _ _ (c .before .before .before .bef
 
 join-queue-requires : tie.Need-join-queue-requires
 unfolding at
-join-queue-requires c κs = joined-room _ _ _ (c .before .before .before .before .before .before .before .pre) _ refl _ (c .before .joined-place .ensures) (accepted-shaped _ _ (c .before .before .before .before .before .before .before .pre) _ (c .before .before .before .before .before .before .before .good .0))
+join-queue-requires c κs =
+    let asked = c .before .before .before .before .before .before .before .pre in
+    joined-room _ _ _ asked _ refl _ (c .before .joined-place .ensures) (accepted-shaped _ _ asked _ (c .before .before .before .before .before .before .before .good .0))
 
 mul-own : tie.Need-mul-own
 mul-own c = search needs

@@ -7,24 +7,17 @@ use mathlib.Core.Path.{refl, sym, ap, _∙_}
 use borrow.Author.Needs.{needs}
 use Rattle.trace.proofs.is_whole.Statement.{statement}
 use Rattle.trace.proofs.is_whole.Tie as tie
-use Rattle.trace.proofs.is_whole.Reads as reads
-use Rattle.trace.proofs.is_whole.Lts as lts
-use Rattle.schedule.proofs.record_length.Reads as record-length-reads
 
--- src/lib.rt:28:9
 returns : tie.Need-returns
 unfolding wholeRecord
 returns c = sym (rw (lt-leb 4 _ (c .if1 .taken)) refl)
 
--- src/lib.rt:30:29
 shared-slice-read-record-length : tie.Need-shared-slice-read-record-length
 shared-slice-read-record-length c = search needs
 
--- src/lib.rt:30:5
 record-length-requires : tie.Need-record-length-requires
 record-length-requires c κs = search needs
 
--- src/lib.rt:24:1
 returns-2 : tie.Need-returns-2
 unfolding wholeRecord
 returns-2 c = ap (λ (k : ℕ). leb k (length (c .before .before .before .before .args .bytes .now))) (c .record-length .ensures) ∙ sym (rw (le-leb 4 _ (c .before .before .if1 .left)) refl)
