@@ -1,20 +1,12 @@
 -- A trace behind its table record can go on.
-use mathlib.Core.Path.{_≡_, refl, sym, ap, _∙_}
-use mathlib.Core.List.{List}
-use Prim.Native.Nat.{ℕ, _*_, _<_}
+use mathlib.Core.Path.{_≡_}
+use Prim.Native.Nat.{ℕ}
 use native.Mathlib.Omega.{arith}
-use lib.ListN.{length}
 use Rattle.model.specs.Refusals.{makeRefusal}
-use Rattle.invariant.proofs.New.{new-size}
-use Rattle.core.proofs.Kept.{new-runnable}
-use Rattle.trace.specs.Trace.{opened, Ready}
+use Rattle.core.proofs.Kept.{new-checked}
+use Rattle.trace.specs.Trace.{opened, Steady}
 
--- by as many bytes as a buffer holds
-pub opened-ready : (n : ℕ) → makeRefusal n ≡ 0 → (store : List ℕ) (more : ℕ) → length store ≡ 8 * opened n .table .n → more < 65537 → Ready (opened n) store more
+-- if the number of its threads is not refused
+pub opened-steady : (n : ℕ) → makeRefusal n ≡ 0 → Steady (opened n)
 unfolding opened
-opened-ready n made store more fit few = record {
-  runnable = new-runnable n store made (fit ∙ ap (λ (k : ℕ). 8 * k) (new-size n));
-  fewer = omega arith;
-  counted = omega arith;
-  room = omega arith;
-}
+opened-steady n made = record { checked = new-checked n made; fewer = omega arith; counted = omega arith }

@@ -92,12 +92,12 @@ pub goes-first : (from : Trace) (store bytes : List ℕ) → Ready from store (l
 unfolding tallyOf
 goes-first from store bytes ready = record {
   within = omega arith;
-  runnable = ready .runnable;
+  runnable = record { checked = ready .steady .checked; words = ready .words };
   size = refl;
   same = played-to-none (tallyOf from store) bytes;
-  fewer = ready .fewer;
+  fewer = ready .steady .fewer;
   counted = omega arith;
-  room = omega (arith, ready .counted, ready .room);
+  room = omega (arith, ready .steady .counted, ready .room);
 }
 
 module _ {from : Trace} {store₀ bytes : List ℕ} {n : ℕ} {store : List ℕ} {now : Table} {records refused at : ℕ} (G : Goes from store₀ bytes n store now records refused at) where
@@ -170,7 +170,8 @@ module _ {from : Trace} {store₀ bytes : List ℕ} {n : ℕ} {store : List ℕ}
   -- and the trace can go on
   pub goes-further : Ready from store₀ (length bytes) → n ≡ from .table .n → (place : ℕ) → place ≡ from .place + at → Carries from (length bytes) (record { table = now; records = records; refused = refused; place = place }) store
   goes-further was sized place there = record {
-    ready = λ more room. record { runnable = G .runnable; fewer = G .fewer; counted = omega (arith, G .counted, was .counted, there); room = room };
+    steady = record { checked = G .runnable .checked; fewer = G .fewer; counted = omega (arith, G .counted, was .steady .counted, there) };
+    words = G .runnable .words;
     onward = omega (arith, there);
     within = omega (arith, there, G .within);
     size = G .size ∙ sized;

@@ -2,14 +2,15 @@
 use mathlib.Core.Path.{_≡_}
 use mathlib.Core.Bool.{Bool, true, cond}
 use mathlib.Core.List.{List}
-use Prim.Native.Nat.{ℕ, _+_, _≤_, _<_}
+use Prim.Native.Nat.{ℕ, _+_, _*_, _≤_, _<_}
+use lib.ListN.{length}
 use Rattle.model.specs.Threads.{newTable}
 use Rattle.model.specs.Refusals.{makeRefusal}
 use Rattle.model.specs.Promise.{state}
 use Rattle.model.specs.Schedule.{threadByte, front, lawful}
 use Rattle.model.specs.Bondtrace.{Tally}
 use Rattle.pieces.specs.Playing.{playedOn}
-use Rattle.core.proofs.Kept.{Runnable}
+use Rattle.core.proofs.Kept.{Checked}
 use Rattle.trace.specs.declared.Trace.{Trace}
 
 -- the table, the store and the counts of a trace
@@ -28,11 +29,16 @@ openRefusal input = cond (lawful true (front input)) (makeRefusal (threadByte in
 unfoldable pub opened : ℕ → Trace
 opened n = record { table = newTable n; records = 1; refused = 0; place = 4 }
 
--- a trace that can go on by this many bytes: its table is checked, its store has the table's length, and its counts have room
-pub record Ready (t : Trace) (store : List ℕ) (bytes : ℕ) : Type 0 where
-  pub runnable : Runnable (state (t .table) store)
+-- a trace that can go on: its table has passed the check, or was left by calls that started from one that had, and no count is ahead of the bytes
+pub record Steady (t : Trace) : Type 0 where
+  pub checked : Checked (t .table)
   pub fewer : t .refused ≤ t .records
   pub counted : t .records ≤ t .place
+
+-- it can go on by this many bytes with this store: the store has the table's length, and the counts have room
+pub record Ready (t : Trace) (store : List ℕ) (bytes : ℕ) : Type 0 where
+  pub steady : Steady t
+  pub words : length store ≡ 8 * t .table .n
   pub room : t .place + bytes < 18446744073709551616
 
 -- what playing promises of the trace and the store afterwards
@@ -41,9 +47,10 @@ pub record PlayPromise (from : Trace) (store input : List ℕ) (to : Trace) (aft
   pub takes : to .place ≡ from .place + playedOn (tallyOf from store) input .taken
   pub stops : bad ≡ playedOn (tallyOf from store) input .bad
 
--- what a trace that was played is good for: it can go on, it came no further than the bytes, and it has as many threads
+-- what else is known of a trace that was played, and of its store: it can go on, it came no further than the bytes, and it has as many threads
 pub record Carries (from : Trace) (bytes : ℕ) (to : Trace) (after : List ℕ) : Type 0 where
-  pub ready : (more : ℕ) → to .place + more < 18446744073709551616 → Ready to after more
+  pub steady : Steady to
+  pub words : length after ≡ 8 * to .table .n
   pub onward : from .place ≤ to .place
   pub within : to .place ≤ from .place + bytes
   pub size : to .table .n ≡ from .table .n

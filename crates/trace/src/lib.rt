@@ -1,10 +1,9 @@
 // A trace that goes on: the records of a schedule are played as their bytes come in, and the table is checked never again.
 ghost use mathlib.Core.Path.{_≡_};
-ghost use mathlib.Core.List.{List};
-ghost use Prim.Native.Nat.{ℕ, _*_, _≤_, _<_};
+ghost use Prim.Native.Nat.{_≤_};
 ghost use lib.ListN.{length};
 ghost use Rattle.pieces.specs.Playing.{wholeRecord};
-ghost use Rattle.trace.specs.Trace.{openSize, openRefusal, opened, Ready, PlayPromise, Carries};
+ghost use Rattle.trace.specs.Trace.{openSize, openRefusal, opened, Steady, Ready, PlayPromise, Carries};
 use model::Table;
 
 // A table, how many records were read and how many calls refused, and the byte at which the next record starts.
@@ -43,7 +42,7 @@ fn fresh(n: u8) -> Trace
 pub fn open(bytes: &[u8]) -> Opened
     ensures number { λ r. ⌜ r .number ≡ openRefusal (now (bytes .entry)) ⌝ }
     ensures trace { λ r. ⌜ r .trace ≡ opened (openSize (now (bytes .entry))) ⌝ }
-    ensures ready { λ r. ⌜ (r .number ≡ 0 → (4 ≤ length (now (bytes .entry))) × ((store : List ℕ) (more : ℕ) → length store ≡ 8 * r .trace .table .n → more < 65537 → Ready (r .trace) store more)) ⌝ }
+    ensures steady { λ r. ⌜ (r .number ≡ 0 → (4 ≤ length (now (bytes .entry))) × Steady (r .trace)) ⌝ }
 {
     if !schedule::is_lawful(true, bytes) {
         return Opened {

@@ -2,16 +2,12 @@ use Rattle.schedule.proofs.Fronts.{lawful-head-long}
 use Rattle.laws.proofs.Lists.{cond-true, cond-false}
 use Rattle.model.specs.Schedule.{front, lawful}
 use borrow.Author.Tests.{not-true, not-false}
-use lib.ListN.{length}
 use native.Mathlib.Omega.{arith}
-use Prim.Native.Nat.{ℕ, _*_, _<_}
-use mathlib.Core.List.{List}
 use mathlib.Core.Bool.{true, false}
 use mathlib.Core.Path.{_≡_, sym, ap, _∙_, subst}
 use borrow.Author.Needs.{needs}
-use Rattle.trace.proofs.Opening.{opened-ready}
-use Rattle.trace.specs.Trace.{openSize, openRefusal, opened, Ready}
-use Rattle.trace.specs.declared.Trace.{Trace}
+use Rattle.trace.proofs.Opening.{opened-steady}
+use Rattle.trace.specs.Trace.{openSize, openRefusal, opened, Steady}
 use Rattle.trace.proofs.open.Statement.{statement}
 use Rattle.trace.proofs.open.Tie as tie
 
@@ -44,7 +40,7 @@ returns-2 c = let good : lawful true (front (c .before .before .before .before .
     c .fresh2 .ensures ∙ ap opened (sym (cond-true _ _ _ good)),
     λ made. (
       lawful-head-long (c .before .before .before .before .before .before .args .bytes .now) true good,
-      subst (λ (t : Trace). (store : List ℕ) (more : ℕ) → length store ≡ 8 * t .table .n → more < 65537 → Ready t store more) (sym (c .fresh2 .ensures)) (opened-ready _ (sym (c .before .size-refusal .ensures) ∙ made)),
+      subst Steady (sym (c .fresh2 .ensures)) (opened-steady _ (sym (c .before .size-refusal .ensures) ∙ made)),
     ),
   ),
 )

@@ -440,7 +440,7 @@ add-t96 c = omega (arith, (c .before .before .before .before .before .before .lo
 same-length : tie.Need-same-length Inv-loop μ-loop
 same-length c =
     let so-far = c .before .before .before .before .before .before .loop .inv in
-    so-far .runnable .words ∙ ap (λ (k : ℕ). 8 * k) (so-far .size) ∙ sym (c .before .before .before .before .before .before .before .before .before .before .pre .runnable .words)
+    so-far .runnable .words ∙ ap (λ (k : ℕ). 8 * k) (so-far .size) ∙ sym (c .before .before .before .before .before .before .before .before .before .before .pre .words)
 
 returns : tie.Need-returns Inv-loop μ-loop
 returns c =

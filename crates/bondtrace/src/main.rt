@@ -1,0 +1,4 @@
+// Plays the schedule on standard input and prints how it ends.
+fn main() {
+    running::run(0);
+}
