@@ -14,7 +14,7 @@ use model::Outcome;
 use model::Table;
 
 // One byte at a place.
-fn put_byte(out: &mut [u8], start: usize, byte: u8) -> usize
+pub fn put_byte(out: &mut [u8], start: usize, byte: u8) -> usize
     ensures { λ r. ⌜ Written start (byte ∷ []) (now (out .entry)) (now (out .exit)) r ⌝ }
 {
     if out.len() <= start {
@@ -25,7 +25,7 @@ fn put_byte(out: &mut [u8], start: usize, byte: u8) -> usize
 }
 
 // Bytes from a place on.
-fn put_text(out: &mut [u8], start: usize, text: &[u8]) -> usize
+pub fn put_text(out: &mut [u8], start: usize, text: &[u8]) -> usize
     ensures { λ r. ⌜ Written start (now (text .entry)) (now (out .entry)) (now (out .exit)) r ⌝ }
 {
     let mut end = start;
@@ -38,7 +38,7 @@ fn put_text(out: &mut [u8], start: usize, text: &[u8]) -> usize
 }
 
 // A number in decimal.
-fn put_number(out: &mut [u8], start: usize, n: u64) -> usize
+pub fn put_number(out: &mut [u8], start: usize, n: u64) -> usize
     ensures { λ r. ⌜ Written start (decimal n) (now (out .entry)) (now (out .exit)) r ⌝ }
 {
     let mut digits = [0u8; 20];
@@ -58,7 +58,7 @@ fn magnitude(code: i32) -> u64
 }
 
 // A code with its sign.
-fn put_signed(out: &mut [u8], start: usize, code: i32) -> usize
+pub fn put_signed(out: &mut [u8], start: usize, code: i32) -> usize
     ensures { λ r. ⌜ Written start (signed code) (now (out .entry)) (now (out .exit)) r ⌝ }
 {
     let n = magnitude(code);
@@ -70,7 +70,7 @@ fn put_signed(out: &mut [u8], start: usize, code: i32) -> usize
 }
 
 // Words, each behind a space.
-fn put_words(out: &mut [u8], start: usize, words: &[u32]) -> usize
+pub fn put_words(out: &mut [u8], start: usize, words: &[u32]) -> usize
     ensures { λ r. ⌜ Written start (spaced (now (words .entry))) (now (out .entry)) (now (out .exit)) r ⌝ }
     ensures { λ _. ⌜ length (spaced (now (words .entry))) ≤ longestWord * length (now (words .entry)) ⌝ }
 {
@@ -95,7 +95,7 @@ fn lesser(a: usize, b: usize) -> usize
 }
 
 // The first count of thread x's eight words, as far as the store has them.
-fn shown_words<'a>(store: &'a [u32], x: u8, count: u8) -> &'a [u32]
+pub fn shown_words<'a>(store: &'a [u32], x: u8, count: u8) -> &'a [u32]
     ensures { λ r. ⌜ now r ≡ take count (wordsAt (now (store .entry)) x) ⌝ }
 {
     let first = lesser(8 * (x as usize), store.len());

@@ -1,12 +1,12 @@
 -- Bytes moved down to the front one by one, in place: what is still to be moved is read as it was.
 use mathlib.Core.Path.{_≡_, sym, _∙_, ap}
 use mathlib.Core.List.{List}
-use Prim.Native.Nat.{ℕ, suc, _+_, _≤_, _<_}
+use Prim.Native.Nat.{ℕ, _+_, _≤_, _<_}
 use native.Mathlib.Nat.{zero-add}
 use native.Mathlib.Numerals.{add-one}
 use native.Mathlib.Omega.{arith}
 use lib.ListN.{length, getD, set, take, drop, length-drop}
-use lib.Seq.{length-take-le, getD-drop, paste, paste-suc, length-paste, take-paste, drop-paste}
+use lib.Seq.{length-take-le, getD-drop, paste, paste-suc, take-paste, drop-paste}
 use Rattle.io.specs.Counts.{Counts}
 
 -- a number within a list's length counts elements at its start
@@ -14,7 +14,7 @@ pub counted : (n : ℕ) (bytes : List ℕ) → n ≤ length bytes → Counts n b
 counted n bytes within = (within, sym (length-take-le n bytes within))
 
 module _ (bytes : List ℕ) (start : ℕ) where
-  -- the bytes after the first n from start on are copied to the front
+  -- the bytes, with the first n from start on copied to the front
   abbrev pub movedDown : ℕ → List ℕ
   movedDown n = paste bytes 0 (drop start bytes) n
 
@@ -22,10 +22,6 @@ module _ (bytes : List ℕ) (start : ℕ) where
     -- there are as many from start on
     enough : n ≤ length (drop start bytes)
     enough = rw (length-drop start bytes) (omega arith)
-
-    -- the length is kept
-    pub length-moved : length (movedDown n) ≡ length bytes
-    length-moved = length-paste bytes 0 (drop start bytes) n (omega arith) enough
 
     -- the first n are those from start on
     pub front-moved : take n (movedDown n) ≡ take n (drop start bytes)
