@@ -21,11 +21,7 @@ use Rattle.laws.proofs.Groups.{later-refusal, place-passed}
 use Rattle.invariant.proofs.New.{new-size, new-shaped, made-well-formed}
 use Rattle.invariant.proofs.Frames.{next-size, next-store-length}
 use Rattle.invariant.proofs.Keeps.{keeps-shaped, keeps-test}
-
--- a table from which the core may run: it has passed the check, or was left by a call that started from one that had
-pub record Checked (t : Table) : Type 0 where
-  pub formed : wellFormed t ≡ true
-  pub shaped : Shaped t
+use Rattle.core.specs.Runnable.{Checked, Runnable}
 
 -- ---- checked tables
 module _ (n : ℕ) (made : makeRefusal n ≡ 0) where
@@ -45,12 +41,6 @@ module _ (n : ℕ) (made : makeRefusal n ≡ 0) where
 -- every call, refused or not, leaves a checked table where it found one
 pub keeps-checked : (c : Call) (s : State) → Checked (s .table) → Checked (next c s .table)
 keeps-checked c s k = record { formed = keeps-test c s (k .shaped) (k .formed); shaped = keeps-shaped c s (k .shaped) }
-
--- ---- states from which calls may run one after the other
--- the table is checked, and the store has eight words for each thread
-pub record Runnable (s : State) : Type 0 where
-  pub checked : Checked (s .table)
-  pub words : length (s .store) ≡ 8 * s .table .n
 
 -- a new table of a lawful size, with a store of its length
 pub new-runnable : (n : ℕ) (store : List ℕ) → makeRefusal n ≡ 0 → length store ≡ 8 * n → Runnable (state (newTable n) store)

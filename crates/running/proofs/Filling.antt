@@ -7,15 +7,15 @@ use lib.ListN.{length, take, drop, length-append, length-drop}
 use lib.Seq.{length-take-le}
 use Rattle.model.proofs.Numbers.{size-read}
 use Rattle.model.proofs.Tested.{well-formed-told}
-use Rattle.trace.specs.declared.Trace.{Trace}
-use Rattle.trace.specs.Trace.{Steady, Ready, Carries}
+use Rattle.trace.specs.declared.Playback.{Playback}
+use Rattle.trace.specs.Playback.{Steady, Playable, Carries}
 
 -- a trace that can go on has at most 32 threads
-pub steady-few : (t : Trace) → Steady t → t .table .n ≤ 32
+pub steady-few : (t : Playback) → Steady t → t .table .n ≤ 32
 steady-few t steady = size-read (t .table .n) (well-formed-told (t .table) (steady .checked .formed) .size) .1
 
 -- the trace can go on, its words are the first `size` of an array, the bytes from start to end are still to be played, and no count comes near its end
-pub record Fills (buffer words : List ℕ) (size : ℕ) (t : Trace) (start end refills : ℕ) : Type 0 where
+pub record Fills (buffer words : List ℕ) (size : ℕ) (t : Playback) (start end refills : ℕ) : Type 0 where
   pub steady : Steady t
   pub sized : size ≡ 8 * t .table .n
   pub array : length words ≡ 256
@@ -24,7 +24,7 @@ pub record Fills (buffer words : List ℕ) (size : ℕ) (t : Trace) (start end r
   pub filled : end ≤ 65536
   pub room : t .place + 65536 * (refills + 1) < 18446744073709551616
 
-module _ {buffer words : List ℕ} {size : ℕ} {t : Trace} {start end refills : ℕ} (F : Fills buffer words size t start end refills) where
+module _ {buffer words : List ℕ} {size : ℕ} {t : Playback} {start end refills : ℕ} (F : Fills buffer words size t start end refills) where
   -- there are at most as many words as the array has
   pub words-there : size ≤ 256
   words-there = omega (arith, steady-few t (F .steady), F .sized)
@@ -38,10 +38,10 @@ module _ {buffer words : List ℕ} {size : ℕ} {t : Trace} {start end refills :
   words-length = length-take-le size words (omega (arith, words-there, F .array))
 
   -- the bytes can be played
-  pub ready : (store : List ℕ) (bytes : ℕ) → length store ≡ size → bytes ≡ end - start → Ready t store bytes
+  pub ready : (store : List ℕ) (bytes : ℕ) → length store ≡ size → bytes ≡ end - start → Playable t store bytes
   ready store bytes long short = record { steady = F .steady; words = long ∙ F .sized; room = omega (arith, F .room, F .filled, short) }
 
-  module _ (to : Trace) (store : List ℕ) (bytes : ℕ) (short : bytes ≡ end - start) (carries : Carries t bytes to store) where
+  module _ (to : Playback) (store : List ℕ) (bytes : ℕ) (short : bytes ≡ end - start) (carries : Carries t bytes to store) where
     -- the words are still the first of an array
     pub words-kept : length store ≡ size
     words-kept = carries .words ∙ ap (λ (k : ℕ). 8 * k) (carries .size) ∙ sym (F .sized)

@@ -2,8 +2,8 @@
 ghost use mathlib.Core.Path.{_≡_};
 ghost use Prim.Native.Nat.{_≤_};
 ghost use lib.ListN.{length};
-ghost use Rattle.trace.specs.Trace.{Steady};
-use trace::Trace;
+ghost use Rattle.trace.specs.Playback.{Steady};
+use trace::Playback;
 
 // Standard output.
 const OUTPUT: i32 = 1;
@@ -19,24 +19,24 @@ fn print_bad(number: u8, place: u64) {
 }
 
 // Prints how many records were read and calls refused, and how each thread stands.
-fn print_end(trace: Trace, store: &[u32]) {
+fn print_end(playback: Playback, store: &[u32]) {
     let mut out = io::buffer();
-    let table = trace.table;
-    let n = printing::final_text(table, store, trace.records, trace.refused, &mut out);
+    let table = playback.table;
+    let n = printing::final_text(table, store, playback.records, playback.refused, &mut out);
     io::write_all(OUTPUT, &out[..n]);
 }
 
 // The input has ended, with some bytes left of a record that is cut short, or with none.
-fn finish(trace: Trace, store: &[u32], left: usize) {
+fn finish(playback: Playback, store: &[u32], left: usize) {
     if left != 0 {
-        print_bad(schedule::BAD_RECORD, trace.place);
+        print_bad(schedule::BAD_RECORD, playback.place);
         return;
     }
-    print_end(trace, store);
+    print_end(playback, store);
 }
 
 // Plays what stands in the buffer behind the table record, and the rest of the input.
-fn play_on(input: i32, opened: Trace, buffer: &mut [u8], filled: usize)
+fn play_on(input: i32, opened: Playback, buffer: &mut [u8], filled: usize)
     requires { ⌜ Steady opened ⌝ }
     requires { ⌜ opened .place ≡ 4 ⌝ }
     requires { ⌜ length (now buffer) ≡ 65536 ⌝ }
@@ -44,25 +44,25 @@ fn play_on(input: i32, opened: Trace, buffer: &mut [u8], filled: usize)
 {
     let mut words = [0u32; 256];
     let size = 8 * (opened.table.n as usize);
-    let mut trace = opened;
+    let mut playback = opened;
     let mut start: usize = 4;
     let mut end = filled;
     let mut refills = MOST_REFILLS;
     while 0 < refills {
         refills -= 1;
-        let before = trace.place;
-        let played = trace::play(trace, &mut words[..size], &buffer[start..end]);
-        trace = played.trace;
+        let before = playback.place;
+        let played = trace::play(playback, &mut words[..size], &buffer[start..end]);
+        playback = played.playback;
         if played.bad {
-            print_bad(schedule::BAD_RECORD, trace.place);
+            print_bad(schedule::BAD_RECORD, playback.place);
             return;
         }
-        let next = start + (trace.place - before) as usize;
+        let next = start + (playback.place - before) as usize;
         let left = end - next;
         end = refill::refill(input, buffer, next, end);
         start = 0;
         if end == left {
-            finish(trace, &words[..size], left);
+            finish(playback, &words[..size], left);
             return;
         }
     }
@@ -78,6 +78,6 @@ pub fn run(input: i32) {
         print_bad(opened.number, 0);
         return;
     }
-    let trace = opened.trace;
-    play_on(input, trace, buffer, filled);
+    let playback = opened.playback;
+    play_on(input, playback, buffer, filled);
 }

@@ -20,9 +20,10 @@ use Rattle.schedule.proofs.Fronts.{record-head, lawful-long, lawful-head-long}
 use Rattle.pieces.specs.Playing.{Progress, playedOn, wholeRecord}
 use Rattle.pieces.specs.Pieces.{PlayedTo}
 use Rattle.pieces.proofs.Playing.{played-to-none, played-to-more, played-to-end}
-use Rattle.core.proofs.Kept.{Runnable, keeps-runnable, keeps-size}
-use Rattle.trace.specs.declared.Trace.{Trace}
-use Rattle.trace.specs.Trace.{tallyOf, Ready, PlayPromise, Carries}
+use Rattle.core.specs.Runnable.{Runnable}
+use Rattle.core.proofs.Kept.{keeps-runnable, keeps-size}
+use Rattle.trace.specs.declared.Playback.{Playback}
+use Rattle.trace.specs.Playback.{tallyOf, Playable, PlayPromise, Carries}
 
 -- the bytes from a place on, as the code has them
 abbrev pub from-place : List ℕ → ℕ → List ℕ
@@ -73,7 +74,7 @@ module _ (start p q : Tally) (bytes rest : List ℕ) (at to : ℕ) (is : rest �
       (played-to-more start bytes at p so-far (subst (λ (l : List ℕ). lawful false (front l) ≡ true) is good)))
 
 -- ---- what holds at each turn
-pub record Goes (from : Trace) (store₀ bytes : List ℕ) (n : ℕ) (store : List ℕ) (now : Table) (records refused at : ℕ) : Type 0 where
+pub record Goes (from : Playback) (store₀ bytes : List ℕ) (n : ℕ) (store : List ℕ) (now : Table) (records refused at : ℕ) : Type 0 where
   -- not all bytes are passed
   pub within : at ≤ length bytes
   -- calls may run
@@ -88,7 +89,7 @@ pub record Goes (from : Trace) (store₀ bytes : List ℕ) (n : ℕ) (store : Li
   pub room : from .records + length bytes < 18446744073709551616
 
 -- it holds at first
-pub goes-first : (from : Trace) (store bytes : List ℕ) → Ready from store (length bytes) → Goes from store bytes (from .table .n) store (from .table) (from .records) (from .refused) 0
+pub goes-first : (from : Playback) (store bytes : List ℕ) → Playable from store (length bytes) → Goes from store bytes (from .table .n) store (from .table) (from .records) (from .refused) 0
 unfolding tallyOf
 goes-first from store bytes ready = record {
   within = omega arith;
@@ -100,7 +101,7 @@ goes-first from store bytes ready = record {
   room = omega (arith, ready .steady .counted, ready .room);
 }
 
-module _ {from : Trace} {store₀ bytes : List ℕ} {n : ℕ} {store : List ℕ} {now : Table} {records refused at : ℕ} (G : Goes from store₀ bytes n store now records refused at) where
+module _ {from : Playback} {store₀ bytes : List ℕ} {n : ℕ} {store : List ℕ} {now : Table} {records refused at : ℕ} (G : Goes from store₀ bytes n store now records refused at) where
   -- ---- a turn, with a lawful record at the front
   module _ (good : lawful false (front (from-place bytes at)) ≡ true) where
     -- the bytes of the turn
@@ -168,7 +169,7 @@ module _ {from : Trace} {store₀ bytes : List ℕ} {n : ℕ} {store : List ℕ}
       }
 
   -- and the trace can go on
-  pub goes-further : Ready from store₀ (length bytes) → n ≡ from .table .n → (place : ℕ) → place ≡ from .place + at → Carries from (length bytes) (record { table = now; records = records; refused = refused; place = place }) store
+  pub goes-further : Playable from store₀ (length bytes) → n ≡ from .table .n → (place : ℕ) → place ≡ from .place + at → Carries from (length bytes) (record { table = now; records = records; refused = refused; place = place }) store
   goes-further was sized place there = record {
     steady = record { checked = G .runnable .checked; fewer = G .fewer; counted = omega (arith, G .counted, was .steady .counted, there) };
     words = G .runnable .words;

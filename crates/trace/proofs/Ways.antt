@@ -21,7 +21,7 @@ use Rattle.model.proofs.Laws.{same?}
 use Rattle.laws.proofs.Rows.{first-here, first-later}
 use Rattle.laws.proofs.Groups.{later-refusal}
 use Rattle.core.proofs.Kept.{tick-accepted, cancel-accepted, step-accepted, begin-number}
-use Rattle.trace.specs.declared.Trace.{Trace}
+use Rattle.trace.specs.declared.Playback.{Playback}
 use Rattle.trace.proofs.Records.{calls-tick, calls-step, calls-cancel, calls-begin, must-begin}
 use Rattle.trace.proofs.Turns.{from-place, Goes, turn-accepted, turn-refused}
 
@@ -53,7 +53,7 @@ module _ (s : State) (formed : wellFormed (s .table) ≡ true) (x : ℕ) where
   cancel-owned below owned = not-zero _ 3 (later-refusal (cancel x) s formed ∙ first-later _ _ (lt-leb (s .table .n) x below) ∙ first-here _ _ (ap not (ne-eqb (at (s .table) x .owner) nobody owned)))
 
 -- ---- the ways
-module _ {from : Trace} {store₀ bytes : List ℕ} {n : ℕ} {store : List ℕ} {now : Table} {records refused place : ℕ} (G : Goes from store₀ bytes n store now records refused place)
+module _ {from : Playback} {store₀ bytes : List ℕ} {n : ℕ} {store : List ℕ} {now : Table} {records refused place : ℕ} (G : Goes from store₀ bytes n store now records refused place)
     (good : lawful false (front (from-place bytes place)) ≡ true) where
   -- the bytes of the turn
   abbrev rest : List ℕ

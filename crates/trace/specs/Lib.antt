@@ -1,1 +1,1 @@
-pub mod Trace
+pub mod Playback

@@ -1,36 +1,36 @@
-// A trace that goes on: the records of a schedule are played as their bytes come in, and the table is checked never again.
+// A trace that goes on: the records of a schedule are played as their bytes come in, from a table that needs no check.
 ghost use mathlib.Core.Path.{_≡_};
 ghost use Prim.Native.Nat.{_≤_};
 ghost use lib.ListN.{length};
 ghost use Rattle.pieces.specs.Playing.{wholeRecord};
-ghost use Rattle.trace.specs.Trace.{openSize, openRefusal, opened, Steady, Ready, PlayPromise, Carries};
+ghost use Rattle.trace.specs.Playback.{openSize, openRefusal, opened, Steady, Playable, PlayPromise, Carries};
 use model::Table;
 
-// A table, how many records were read and how many calls refused, and the byte at which the next record starts.
-pub struct Trace {
+// How far a trace is played: the table, how many records were read and calls refused, and the byte at which the next record starts.
+pub struct Playback {
     pub table: Table,
     pub records: u64,
     pub refused: u64,
     pub place: u64,
 }
 
-// A trace, and whether an unlawful record stands where it stopped.
+// How far playing came, and whether an unlawful record stands there.
 pub struct Played {
-    pub trace: Trace,
+    pub playback: Playback,
     pub bad: bool,
 }
 
-// A new trace, and the number by which its table record is refused, or 0.
+// A trace of which only the table record is played, and the number by which that is refused, or 0.
 pub struct Opened {
     pub number: u8,
-    pub trace: Trace,
+    pub playback: Playback,
 }
 
-// The trace behind a table record of n threads.
-fn fresh(n: u8) -> Trace
+// Only a table record of n threads is played.
+fn fresh(n: u8) -> Playback
     ensures { λ r. ⌜ r ≡ opened n ⌝ }
 {
-    Trace {
+    Playback {
         table: core::new_table(n),
         records: 1,
         refused: 0,
@@ -41,19 +41,26 @@ fn fresh(n: u8) -> Trace
 // Reads the table record at the front of the bytes.
 pub fn open(bytes: &[u8]) -> Opened
     ensures number { λ r. ⌜ r .number ≡ openRefusal (now (bytes .entry)) ⌝ }
-    ensures trace { λ r. ⌜ r .trace ≡ opened (openSize (now (bytes .entry))) ⌝ }
-    ensures steady { λ r. ⌜ (r .number ≡ 0 → (4 ≤ length (now (bytes .entry))) × Steady (r .trace)) ⌝ }
+    ensures playback { λ r. ⌜ r .playback ≡ opened (openSize (now (bytes .entry))) ⌝ }
+    ensures steady { λ r. ⌜ (r .number ≡ 0 → (4 ≤ length (now (bytes .entry))) × Steady (r .playback)) ⌝ }
 {
     if !schedule::is_lawful(true, bytes) {
         return Opened {
             number: schedule::BAD_RECORD,
-            trace: fresh(0),
+            playback: fresh(0),
         };
     }
     let n = bytes[3];
+    let number = refusals::size_refusal(n);
+    if number != 0 {
+        return Opened {
+            number: number,
+            playback: fresh(0),
+        };
+    }
     Opened {
-        number: refusals::size_refusal(n),
-        trace: fresh(n),
+        number: number,
+        playback: fresh(n),
     }
 }
 
@@ -68,10 +75,10 @@ fn is_whole(bytes: &[u8]) -> bool
 }
 
 // Plays the lawful records at the front of the bytes, one after the other.
-pub fn play(from: Trace, store: &mut [u32], bytes: &[u8]) -> Played
-    requires { ⌜ Ready from (now store) (length (now bytes)) ⌝ }
-    ensures played { λ r. ⌜ PlayPromise from (now (store .entry)) (now (bytes .entry)) (r .trace) (now (store .exit)) (r .bad) ⌝ }
-    ensures carries { λ r. ⌜ Carries from (length (now (bytes .entry))) (r .trace) (now (store .exit)) ⌝ }
+pub fn play(from: Playback, store: &mut [u32], bytes: &[u8]) -> Played
+    requires { ⌜ Playable from (now store) (length (now bytes)) ⌝ }
+    ensures played { λ r. ⌜ PlayPromise from (now (store .entry)) (now (bytes .entry)) (r .playback) (now (store .exit)) (r .bad) ⌝ }
+    ensures carries { λ r. ⌜ Carries from (length (now (bytes .entry))) (r .playback) (now (store .exit)) ⌝ }
 {
     let mut now = from.table;
     let n = now.n;
@@ -143,14 +150,14 @@ pub fn play(from: Trace, store: &mut [u32], bytes: &[u8]) -> Played
         now.threads[i] = begins::begin_own(n, op, mine);
     }
     let bad = is_whole(&bytes[at..]);
-    let trace = Trace {
+    let playback = Playback {
         table: now,
         records: records,
         refused: refused,
         place: from.place + at as u64,
     };
     Played {
-        trace: trace,
+        playback: playback,
         bad: bad,
     }
 }

@@ -1,5 +1,5 @@
-use Rattle.trace.specs.Trace.{opened}
-use Rattle.trace.specs.declared.Trace.{Trace}
+use Rattle.trace.specs.Playback.{opened}
+use Rattle.trace.specs.declared.Playback.{Playback}
 use native.Mathlib.Omega.{arith}
 use mathlib.Core.Path.{ap}
 use borrow.Author.Needs.{needs}
@@ -35,7 +35,7 @@ unfolding opened
 play-on-requires c κs =
     let open-tells = c .before .before .before .«open» .ensures in
     let test1 = c .before .if1 .left in
-    (open-tells .1 .1 test1 .1, (ap (λ (t : Trace). t .place) (open-tells .1 .0), (search needs, (omega (arith, open-tells .1 .1 test1 .0, c .before .before .before .before .before .before .before .read-full .ensures .1), search needs))))
+    (open-tells .1 .1 test1 .1, (ap (λ (t : Playback). t .place) (open-tells .1 .0), (search needs, (omega (arith, open-tells .1 .1 test1 .0, c .before .before .before .before .before .before .before .read-full .ensures .1), search needs))))
 
 returns-2 : tie.Need-returns-2
 returns-2 c = search needs

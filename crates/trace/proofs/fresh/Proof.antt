@@ -1,7 +1,7 @@
 use Rattle.model.specs.declared.Table.{Table}
 use mathlib.Core.Path.{ap}
 use borrow.Author.Needs.{needs}
-use Rattle.trace.specs.Trace.{opened}
+use Rattle.trace.specs.Playback.{opened}
 use Rattle.trace.proofs.fresh.Statement.{statement}
 use Rattle.trace.proofs.fresh.Tie as tie
 
