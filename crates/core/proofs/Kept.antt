@@ -30,21 +30,17 @@ module _ (n : ℕ) (made : makeRefusal n ≡ 0) where
   unfolding madeTable unless
   new-formed = rw made at (made-well-formed n made)
 
-  -- it has at most 32 threads
-  new-few : n ≤ 32
-  new-few = size-read n (rw (new-size n) at (new-formed .size)) .1
+  -- it has 1 to 32 threads
+  pub new-sized : (1 ≤ n) × (n ≤ 32)
+  new-sized = size-read n (rw (new-size n) at (new-formed .size))
 
   -- so it counts as checked
   pub new-checked : Checked (newTable n)
-  new-checked = record { formed = well-formed-tested (newTable n) new-formed; shaped = new-shaped n new-few }
+  new-checked = record { formed = well-formed-tested (newTable n) new-formed; shaped = new-shaped n (new-sized .1) }
 
 -- every call, refused or not, leaves a checked table where it found one
 pub keeps-checked : (c : Call) (s : State) → Checked (s .table) → Checked (next c s .table)
 keeps-checked c s k = record { formed = keeps-test c s (k .shaped) (k .formed); shaped = keeps-shaped c s (k .shaped) }
-
--- a new table of a lawful size, with a store of its length
-pub new-runnable : (n : ℕ) (store : List ℕ) → makeRefusal n ≡ 0 → length store ≡ 8 * n → Runnable (state (newTable n) store)
-new-runnable n store made fit = record { checked = new-checked n made; words = fit ∙ ap (λ (k : ℕ). 8 * k) (sym (new-size n)) }
 
 -- every call, refused or not, leaves such a state where it found one
 pub next-runnable : (c : Call) (s : State) → Runnable s → Runnable (next c s)

@@ -10,12 +10,10 @@ use model::Answer;
 use model::Record;
 use model::Returned;
 use model::Table;
-
-// The bytes of the longest record.
-const LONGEST: usize = 42;
+use schedule::BEGIN_BYTES;
 
 // The byte up to which a schedule is followed: none is so long, and a record that starts before it ends at a byte with a number.
-const LAST_BYTE: u64 = u64::MAX - 42;
+const LAST_BYTE: u64 = u64::MAX - BEGIN_BYTES as u64;
 
 // A part of the buffer: the bytes from start to end.
 struct Part {
@@ -38,9 +36,10 @@ fn unread(input: i32, buffer: &mut [u8], left: Part) -> Part
 {
     let start = left.start;
     let end = left.end;
-    if LONGEST <= end - start {
+    if BEGIN_BYTES <= end - start {
         return left;
     }
+    // Only the input's end leaves room in the buffer.
     if end < buffer.len() {
         return left;
     }
@@ -51,12 +50,13 @@ fn unread(input: i32, buffer: &mut [u8], left: Part) -> Part
     }
 }
 
-// Prints the lines of all threads, of which a table has at most 32.
+// Prints the lines of all threads.
 fn print_threads(table: Table, store: &[u32]) {
     let n = table.n;
     let mut x: u8 = 0;
     while x < n {
         let i = x as usize;
+        // Never so, for a table has at most 32 threads: no contract here says that, so the test keeps i within the array.
         if 32 <= i {
             return;
         }

@@ -11,4 +11,5 @@ pub mod Replays
 pub mod Clauses
 pub mod Making
 pub mod Printed
+pub mod LawfulBytes
 pub mod Free

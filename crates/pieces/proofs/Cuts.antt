@@ -9,14 +9,14 @@ use Rattle.model.specs.Schedule.{front, lawful}
 use Rattle.model.specs.Bondtrace.{Tally}
 use Rattle.pieces.specs.Playing.{Progress, ahead, playedOn}
 use Rattle.pieces.proofs.Playing.{behind, further, ahead-none, ahead-again, played-stops, played-more, of-all-played}
-use Rattle.pieces.proofs.Fronts.{lawful-whole, whole-stays, front-stays, behind-stays}
+use Rattle.pieces.proofs.Fronts.{whole-if-lawful, whole-stays, front-stays, behind-stays}
 
 module _ (more : List ℕ) where
   -- a lawful record at the front is played whatever comes in
   one-before-more : (p : Tally) (input : List ℕ) → lawful false (front input) ≡ true
       → playedOn p (input ++ more) ≡ ahead (length (front input)) (playedOn (further p input) (behind input ++ more))
   one-before-more p input e =
-      let same : front (input ++ more) ≡ front input = front-stays input (lawful-whole false input e) more in
+      let same : front (input ++ more) ≡ front input = front-stays input (whole-if-lawful false input e) more in
       rw (same, behind-stays input more) at (played-more p (input ++ more) (rw same e))
 
   -- where playing met an unlawful record, what comes in changes nothing

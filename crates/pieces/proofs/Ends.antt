@@ -8,20 +8,20 @@ use lib.ListN.{length, drop}
 use lib.Seq.{drop-drop}
 use Rattle.model.specs.Schedule.{isEmpty}
 use Rattle.model.specs.Bondtrace.{Tally}
+use Rattle.laws.proofs.Schedule.{front-length}
 use Rattle.roundtrip.proofs.Reading.{not-at-end}
 use Rattle.pieces.specs.Playing.{ahead, playedOn}
-use Rattle.pieces.specs.Pieces.{TakenAtMost, BadLeft, LeftShort}
 use Rattle.pieces.proofs.Playing.{of-all-played}
-use Rattle.pieces.proofs.Fronts.{front-length, whole-least, cut-short}
+use Rattle.pieces.proofs.Fronts.{whole-least, cut-short}
 
 -- no more bytes are taken than there are
-pub taken-at-most : TakenAtMost
+pub taken-at-most : (p : Tally) (input : List ℕ) → playedOn p input .taken ≤ length input
 taken-at-most = of-all-played (λ p input q. q .taken ≤ length input)
     (λ p input e. omega arith)
     (λ p input q e h. unfold ahead in omega (arith, front-length input))
 
 -- an unlawful record is still there, with its kind
-pub bad-left : BadLeft
+bad-left : (p : Tally) (input : List ℕ) → playedOn p input .bad ≡ true → 4 ≤ length (drop (playedOn p input .taken) input)
 bad-left = of-all-played (λ p input q. q .bad ≡ true → 4 ≤ length (drop (q .taken) input))
     (λ p input e bad. whole-least input bad)
     (λ p input q e h bad. unfold ahead in rw (← drop-drop) (h bad))
@@ -31,7 +31,7 @@ pub bad-not-empty : (p : Tally) (input : List ℕ) → playedOn p input .bad ≡
 bad-not-empty p input bad = not-at-end false (drop (playedOn p input .taken) input) (omega (arith, bad-left p input bad))
 
 -- where there is none, what is left is shorter than the longest record
-pub left-short : LeftShort
+pub left-short : (p : Tally) (input : List ℕ) → playedOn p input .bad ≡ false → length (drop (playedOn p input .taken) input) ≤ 41
 left-short = of-all-played (λ p input q. q .bad ≡ false → length (drop (q .taken) input) ≤ 41)
     (λ p input e fine. cut-short input fine)
     (λ p input q e h fine. unfold ahead in rw (← drop-drop) (h fine))

@@ -1,4 +1,5 @@
 pub mod Playing
+pub mod AsRead
 pub mod Fronts
 pub mod Ends
 pub mod Cuts

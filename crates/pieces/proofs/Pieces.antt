@@ -8,11 +8,11 @@ use lib.Seq.{drop-append-le, drop-drop}
 use Rattle.model.specs.Lists.{concat, allOf}
 use Rattle.model.specs.Refusals.{unless}
 use Rattle.model.specs.Schedule.{recordLength, threadByte, front, lawful, isEmpty}
-use Rattle.model.specs.Bondtrace.{Tally, started}
+use Rattle.model.specs.Bondtrace.{Tally, started, bondtrace}
 use Rattle.model.proofs.Laws.{by}
 use Rattle.laws.proofs.Lists.{cond-true, cond-false}
 use Rattle.pieces.specs.Playing.{Progress, wholeRecord, ahead, playedOn}
-use Rattle.pieces.specs.Pieces.{endText, Piecewise, fresh, nextPiece, inPieces, Follows, FollowsFresh, FollowsNext, PiecesAreWhole, RestIsLeft, RestShort, FollowsText, PiecesText}
+use Rattle.pieces.specs.Pieces.{endText, Piecewise, fresh, nextPiece, inPieces, PiecesAreWhole, RestIsLeft, RestShort, PiecesText, KeepsPace}
 use Rattle.pieces.proofs.Playing.{played-stops}
 use Rattle.pieces.proofs.Ends.{taken-at-most, bad-not-empty, left-short}
 use Rattle.pieces.proofs.Cuts.{bad-stays, goes-on}
@@ -29,14 +29,14 @@ unfolding wholeRecord
 none-whole = refl
 
 -- nothing was played of nothing
-pub follows-fresh : FollowsFresh
+pub pace-fresh : (p : Tally) → KeepsPace p [] (fresh p)
 unfolding fresh
-follows-fresh p = record { same = sym (rw none-whole at (played-stops p [] none-unlawful)); kept = λ fine. refl; left = λ bad. absurd (true≢false (sym bad)) }
+pace-fresh p = record { same = sym (rw none-whole at (played-stops p [] none-unlawful)); kept = λ fine. refl; left = λ bad. absurd (true≢false (sym bad)) }
 
-module _ (p : Tally) (input piece : List ℕ) (w : Piecewise) (f : Follows p input w) where
+module _ (p : Tally) (input piece : List ℕ) (w : Piecewise) (f : KeepsPace p input w) where
   -- past an unlawful record
-  follows-bad : w .progress .bad ≡ true → Follows p (input ++ piece) w
-  follows-bad bad = record {
+  pace-bad : w .progress .bad ≡ true → KeepsPace p (input ++ piece) w
+  pace-bad bad = record {
     same = f .same ∙ sym (bad-stays piece p input (sym (ap (λ (q : Progress). q .bad) (f .same)) ∙ bad));
     kept = λ fine. absurd (true≢false (sym bad ∙ fine));
     left = f .left;
@@ -61,39 +61,39 @@ module _ (p : Tally) (input piece : List ℕ) (w : Piecewise) (f : Follows p inp
         ap (drop (played .taken)) (rw (f .kept fine) (sym (drop-append-le (w .progress .taken) input piece most))) ∙ drop-drop (played .taken) (w .progress .taken) (input ++ piece)
 
     -- so far the next piece is played
-    follows-fine : Follows p (input ++ piece) (record { progress = ahead (w .progress .taken) played; rest = drop (played .taken) (w .rest ++ piece) })
+    pace-fine : KeepsPace p (input ++ piece) (record { progress = ahead (w .progress .taken) played; rest = drop (played .taken) (w .rest ++ piece) })
     unfolding ahead
-    follows-fine = record {
+    pace-fine = record {
       same = played-same;
       kept = λ still. played-left;
       left = bad-not-empty (w .progress .tally) (w .rest ++ piece);
     }
 
 -- one piece more
-pub follows-next : FollowsNext
+pub pace-next : (p : Tally) (input piece : List ℕ) (w : Piecewise) → KeepsPace p input w → KeepsPace p (input ++ piece) (nextPiece piece w)
 unfolding nextPiece
-follows-next p input piece w f = by (w .progress .bad)
-    (λ bad. subst (Follows p (input ++ piece)) (sym (cond-true _ _ _ bad)) (follows-bad p input piece w f bad))
-    (λ fine. subst (Follows p (input ++ piece)) (sym (cond-false _ _ _ fine)) (follows-fine p input piece w f fine))
+pace-next p input piece w f = by (w .progress .bad)
+    (λ bad. subst (KeepsPace p (input ++ piece)) (sym (cond-true _ _ _ bad)) (pace-bad p input piece w f bad))
+    (λ fine. subst (KeepsPace p (input ++ piece)) (sym (cond-false _ _ _ fine)) (pace-fine p input piece w f fine))
 
 -- one piece after the other
-follows-all : (p : Tally) (pieces : List (List ℕ)) (input : List ℕ) (w : Piecewise) → Follows p input w → Follows p (input ++ concat pieces) (inPieces pieces w)
+pace-all : (p : Tally) (pieces : List (List ℕ)) (input : List ℕ) (w : Piecewise) → KeepsPace p input w → KeepsPace p (input ++ concat pieces) (inPieces pieces w)
 unfolding inPieces concat
-follows-all p [] input w f = rw (append-nil input) f
-follows-all p (piece ∷ pieces) input w f =
-    rw (← append-assoc input piece (concat pieces)) (follows-all p pieces (input ++ piece) (nextPiece piece w) (follows-next p input piece w f))
+pace-all p [] input w f = rw (append-nil input) f
+pace-all p (piece ∷ pieces) input w f =
+    rw (← append-assoc input piece (concat pieces)) (pace-all p pieces (input ++ piece) (nextPiece piece w) (pace-next p input piece w f))
 
 -- all pieces, from the first on
-pub follows-pieces : (p : Tally) (pieces : List (List ℕ)) → Follows p (concat pieces) (inPieces pieces (fresh p))
-follows-pieces p pieces = follows-all p pieces [] (fresh p) (follows-fresh p)
+pub pace-pieces : (p : Tally) (pieces : List (List ℕ)) → KeepsPace p (concat pieces) (inPieces pieces (fresh p))
+pace-pieces p pieces = pace-all p pieces [] (fresh p) (pace-fresh p)
 
 -- pieces are played as far as the whole of them is
 pub pieces-are-whole : PiecesAreWhole
-pieces-are-whole p pieces = follows-pieces p pieces .same
+pieces-are-whole p pieces = pace-pieces p pieces .same
 
 -- and, short of an unlawful record, what is left of the whole is kept
 pub rest-is-left : RestIsLeft
-rest-is-left p pieces fine = follows-pieces p pieces .kept fine ∙ ap (λ (q : Progress). drop (q .taken) (concat pieces)) (pieces-are-whole p pieces)
+rest-is-left p pieces fine = pace-pieces p pieces .kept fine ∙ ap (λ (q : Progress). drop (q .taken) (concat pieces)) (pieces-are-whole p pieces)
 
 -- so few bytes are kept
 pub rest-short : RestShort
@@ -101,18 +101,19 @@ rest-short p pieces fine = rw (rest-is-left p pieces fine) (left-short p (concat
 
 -- ---- the text
 -- where pieces of an input were played, they print what the input prints
-same-end : (p : Tally) (input : List ℕ) (w : Piecewise) → Follows p input w → endText (playedOn p input) (drop (playedOn p input .taken) input) ≡ endText (w .progress) (w .rest)
+same-end : (p : Tally) (input : List ℕ) (w : Piecewise) → KeepsPace p input w → endText (playedOn p input) (drop (playedOn p input .taken) input) ≡ endText (w .progress) (w .rest)
 unfolding endText
 same-end p input w f = rw (← f .same) (by (w .progress .bad)
     (λ bad. let more : isEmpty (drop (w .progress .taken) input) ≡ false = rw (f .same) (bad-not-empty p input (rw (← f .same) bad)) in rw (f .left bad, more) refl)
     (λ fine. rw (f .kept fine) refl))
 
--- what is kept when no more comes tells the text
-pub follows-text : FollowsText
+-- behind a table record of 1 to 32 threads, what is kept when no more comes tells the text
+pub pace-text : (head input : List ℕ) (w : Piecewise) → lawful true head ≡ true → 1 ≤ threadByte head → threadByte head ≤ 32 → KeepsPace (started (threadByte head)) input w
+    → bondtrace (head ++ input) ≡ endText (w .progress) (w .rest)
 unfolding unless
-follows-text head input w rules least most f =
+pace-text head input w rules least most f =
     (rw (size-accepted (threadByte head) least most) at (table-text head input rules)) ∙ same-end (started (threadByte head)) input w f
 
 -- so the text is the same wherever the input is cut
 pub pieces-text : PiecesText
-pieces-text head pieces rules least most = follows-text head (concat pieces) _ rules least most (follows-pieces (started (threadByte head)) pieces)
+pieces-text head pieces rules least most = pace-text head (concat pieces) _ rules least most (pace-pieces (started (threadByte head)) pieces)

@@ -12,7 +12,6 @@ use Rattle.model.proofs.Laws.{by}
 use Rattle.laws.proofs.Lists.{cond-true, cond-false}
 use Rattle.roundtrip.proofs.Reading.{enough}
 use Rattle.pieces.specs.Playing.{Progress, wholeRecord, ahead, playFrom, playedOn}
-use Rattle.pieces.specs.Pieces.{EnoughAllowed, stoppedAt, PlayedStops, PlayedMore, PlayedToNone, PlayedToMore, PlayedToEnd}
 
 -- what stands behind the front
 abbrev pub behind : List ℕ → List ℕ
@@ -21,6 +20,10 @@ behind input = drop (length (front input)) input
 -- the tally with the record at the front played
 abbrev pub further : Tally → List ℕ → Tally
 further p input = recordPlayed (recordOf (front input)) p
+
+-- nothing is played of this input
+abbrev pub stoppedAt : Tally → List ℕ → Progress
+stoppedAt p input = record { tally = p; taken = 0; bad = wholeRecord input }
 
 module _ (most : ℕ) (p : Tally) (input : List ℕ) where
   -- where no lawful record stands at the front, playing stops
@@ -34,7 +37,7 @@ module _ (most : ℕ) (p : Tally) (input : List ℕ) where
   plays-one e = cond-true _ _ _ e
 
 -- any two bounds above the length of the input play the same
-pub enough-allowed : EnoughAllowed
+enough-allowed : (most more : ℕ) (p : Tally) (input : List ℕ) → length input < most → length input < more → playFrom most p input ≡ playFrom more p input
 enough-allowed zero more p input h k = absurd (omega arith)
 enough-allowed (suc most) zero p input h k = absurd (omega arith)
 enough-allowed (suc most) (suc more) p input h k =
@@ -45,12 +48,12 @@ enough-allowed (suc most) (suc more) p input h k =
     (λ e. plays-none most p input e ∙ sym (plays-none more p input e))
 
 -- playing stops where no lawful record stands at the front
-pub played-stops : PlayedStops
+pub played-stops : (p : Tally) (input : List ℕ) → lawful false (front input) ≡ false → playedOn p input ≡ stoppedAt p input
 unfolding playedOn
 played-stops p input e = plays-none (length input) p input e
 
 -- a lawful record at the front is played, and playing goes on behind it
-pub played-more : PlayedMore
+pub played-more : (p : Tally) (input : List ℕ) → lawful false (front input) ≡ true → playedOn p input ≡ ahead (length (front input)) (playedOn (further p input) (behind input))
 unfolding playedOn
 played-more p input e =
     plays-one (length input) p input e
@@ -68,18 +71,24 @@ pub ahead-again : (k j : ℕ) (q : Progress) → ahead k (ahead j q) ≡ ahead (
 unfolding ahead
 ahead-again k j q = let more : k + (j + q .taken) ≡ k + j + q .taken = omega arith in λ i. record { tally = q .tally; taken = more i; bad = q .bad }
 
+-- the first k bytes of an input were played, and left this tally
+abbrev pub PlayedTo : Tally → List ℕ → ℕ → Tally → Type 0
+PlayedTo p input k now = playedOn p input ≡ ahead k (playedOn now (drop k input))
+
 -- at first no byte was played
-pub played-to-none : PlayedToNone
+pub played-to-none : (p : Tally) (input : List ℕ) → PlayedTo p input 0 p
 played-to-none p input = ahead-none (playedOn p input)
 
 -- past a lawful record, more were
-pub played-to-more : PlayedToMore
+pub played-to-more : (p : Tally) (input : List ℕ) (k : ℕ) (now : Tally) → PlayedTo p input k now → let bytes = front (drop k input) in
+    lawful false bytes ≡ true → PlayedTo p input (k + length bytes) (recordPlayed (recordOf bytes) now)
 played-to-more p input k now so-far e =
     so-far ∙ ap (ahead k) (played-more now (drop k input) e) ∙ ahead-again k (length (front (drop k input))) _
     ∙ ap (λ (left : List ℕ). ahead (k + length (front (drop k input))) (playedOn (further now (drop k input)) left)) (drop-drop (length (front (drop k input))) k input)
 
 -- where no lawful record stands behind them, all were that are played
-pub played-to-end : PlayedToEnd
+pub played-to-end : (p : Tally) (input : List ℕ) (k : ℕ) (now : Tally) → PlayedTo p input k now → lawful false (front (drop k input)) ≡ false
+    → playedOn p input ≡ record { tally = now; taken = k; bad = wholeRecord (drop k input) }
 unfolding ahead
 played-to-end p input k now so-far e =
     let all : k + 0 ≡ k = omega arith in

@@ -3,78 +3,50 @@ use mathlib.Core.Path.{_≡_, refl, sym, ap, _∙_}
 use mathlib.Core.Logic.{_⊎_, inl, inr}
 use mathlib.Core.Bool.{true, false, cond, and-false}
 use mathlib.Core.Option.{Option, none, some}
-use mathlib.Core.List.{List, _∷_, _++_}
-use Prim.Native.Nat.{ℕ, zero, suc, _+_, _≤_, _<_}
+use mathlib.Core.List.{List, _++_}
+use Prim.Native.Nat.{ℕ, _+_, _≤_, _<_}
 use native.Mathlib.Omega.{arith}
 use lib.ListN.{length, take, drop, List·getD-append}
-use lib.Seq.{drop-drop, take-at, drop-at}
+use lib.Seq.{take-at, drop-at}
 use lib.Dec.{leb}
 use borrow.Author.Tests.{eqb-true, le-leb, lt-leb}
 use Rattle.model.specs.declared.Record.{Record}
 use Rattle.model.specs.WellFormed.{sizeInRange}
 use Rattle.model.specs.Refusals.{firstRefusal, unless, badSize, makeRefusal}
 use Rattle.model.specs.Schedule.{tableKind, recordLength, kindByte, threadByte, front, lawful, recordOf, Fault, Reading, isEmpty, readFrom, decodeAll}
-use Rattle.model.specs.Bondtrace.{Tally, recordPlayed, recordsPlayed, started, finalText, badLine, callsText, readingText, bondtrace}
+use Rattle.model.specs.Bondtrace.{Tally, recordsPlayed, started, finalText, badLine, callsText, readingText, bondtrace}
 use Rattle.model.proofs.Laws.{by, and-made, all-of-read, alike-read}
 use Rattle.laws.proofs.Lists.{cond-true, cond-false}
-use Rattle.roundtrip.proofs.Records.{lawful-length, front-lawful}
-use Rattle.roundtrip.proofs.Reading.{reads-none, reads-fault, later, reads-one, enough}
-use Rattle.pieces.specs.Playing.{Progress, ahead, playedOn}
-use Rattle.pieces.specs.Pieces.{stoppedAt, endText, textOf, WholeText, TextUnlawful, TextRefused}
-use Rattle.pieces.proofs.Playing.{behind, further, of-all-played}
-use Rattle.pieces.proofs.Fronts.{front-and-behind, front-byte}
+use Rattle.laws.proofs.Schedule.{front-thread, front-and-behind, lawful-length}
+use Rattle.roundtrip.proofs.Records.{front-lawful}
+use Rattle.roundtrip.proofs.Reading.{reads-fault, later, reads-one, enough}
+use Rattle.pieces.specs.Playing.{Progress, playedOn}
+use Rattle.pieces.specs.Pieces.{endText, textOf, WholeText}
+use Rattle.pieces.proofs.Playing.{behind}
+use Rattle.pieces.proofs.AsRead.{as-read}
 
 -- ---- from a byte on, behind the table record
 -- what is printed of a reading that is played from a tally on
-told : Tally → List Record → Option Fault → List ℕ
-told p records none = finalText (recordsPlayed records p)
-told p records (some fault) = badLine (fault .number) (fault .place)
-
--- with one record more in front
-told-one : (p : Tally) (r : Record) (records : List Record) (fault : Option Fault) → told p (r ∷ records) fault ≡ told (recordPlayed r p) records fault
-unfolding told recordsPlayed
-told-one p r records none = refl
-told-one p r records (some fault) = refl
+playedText : Tally → List Record → Option Fault → List ℕ
+playedText p records none = finalText (recordsPlayed records p)
+playedText p records (some fault) = badLine (fault .number) (fault .place)
 
 -- behind the table record the tally is that of a new table
-told-calls : (n : ℕ) (records : List Record) (fault : Option Fault) → callsText n records fault ≡ told (started n) records fault
-unfolding told callsText
-told-calls n records none = refl
-told-calls n records (some fault) = refl
+calls-played : (n : ℕ) (records : List Record) (fault : Option Fault) → callsText n records fault ≡ playedText (started n) records fault
+unfolding playedText callsText
+calls-played n records none = refl
+calls-played n records (some fault) = refl
 
 -- the same text by how far playing came in an input that starts at a byte
 abbrev endFrom : ℕ → List ℕ → Progress → List ℕ
 endFrom place input q = cond (isEmpty (drop (q .taken) input)) (finalText (q .tally)) (badLine 12 (place + q .taken))
 
 -- reading from that byte on prints it
-abbrev Prints : Tally → List ℕ → Progress → Type 0
-Prints p input q = (most place : ℕ) → length input < most → told p (readFrom most false place input .records) (readFrom most false place input .fault) ≡ endFrom place input q
-
--- where playing stops, reading does
-prints-end : (p : Tally) (input : List ℕ) → lawful false (front input) ≡ false → Prints p input (stoppedAt p input)
-unfolding told recordsPlayed
-prints-end p input e zero place h = absurd (omega arith)
-prints-end p input e (suc most) place h =
-    by (isEmpty input)
-    (λ f. rw (reads-none most false place input f, f) refl)
-    (λ f. rw (reads-fault most false place input f e, f) (ap (badLine 12) (omega arith)))
-
--- where it goes on, reading does
-prints-more : (p : Tally) (input : List ℕ) (q : Progress) → lawful false (front input) ≡ true → Prints (further p input) (behind input) q → Prints p input (ahead (length (front input)) q)
-prints-more p input q e prints zero place h = absurd (omega arith)
-prints-more p input q e prints (suc most) place h =
-    ap (λ (reading : Reading). told p (reading .records) (reading .fault)) (reads-one most false place input e)
-    ∙ told-one p _ _ _ ∙ prints most (place + k) (enough most false place input e h) ∙ moved
-  where
-    k : ℕ
-    k = length (front input)
-
-    moved : endFrom (place + k) (behind input) q ≡ endFrom place input (ahead k q)
-    moved = unfold ahead in rw drop-drop (ap (λ (at : ℕ). cond (isEmpty (drop (k + q .taken) input)) (finalText (q .tally)) (badLine 12 at)) (omega arith))
-
--- what playing comes to is printed
-prints-all : (p : Tally) (input : List ℕ) → Prints p input (playedOn p input)
-prints-all = of-all-played Prints prints-end prints-more
+prints-all : (p : Tally) (input : List ℕ) (most place : ℕ) → length input < most
+    → playedText p (readFrom most false place input .records) (readFrom most false place input .fault) ≡ endFrom place input (playedOn p input)
+unfolding playedText
+prints-all p input most place h = let read = as-read p input most place h in rw (read .fault) (
+    by (isEmpty (drop (playedOn p input .taken) input)) (λ e. rw e (ap finalText (sym (read .tally)))) (λ e. rw e refl))
 
 -- ---- the table record
 module _ (input : List ℕ) (rules : lawful true (front input) ≡ true) where
@@ -88,14 +60,14 @@ module _ (input : List ℕ) (rules : lawful true (front input) ≡ true) where
   -- its thread byte is that of the input
   thread-byte : recordOf (front input) .thread ≡ threadByte input
   unfolding recordOf
-  thread-byte = front-byte input 3 (omega (arith, table-length))
+  thread-byte = front-thread input
 
   -- behind it, what is printed is what playing comes to
   calls-text : (n : ℕ) → let reading = later (length input) true 0 input in let q = playedOn (started n) (drop 4 input) in
       callsText n (reading .records) (reading .fault) ≡ endText q (drop (q .taken) (drop 4 input))
   unfolding endText
   calls-text n =
-      told-calls n _ _ ∙ prints-all (started n) (behind input) (length input) (0 + length (front input)) (enough (length input) true 0 input rules (omega arith))
+      calls-played n _ _ ∙ prints-all (started n) (behind input) (length input) (0 + length (front input)) (enough (length input) true 0 input rules (omega arith))
       ∙ ap (λ (k : ℕ). endFrom (0 + k) (drop k input) (playedOn (started n) (drop k input))) table-length
 
 -- what is printed of a whole reading
@@ -119,7 +91,7 @@ table-unlawful input e = by (lawful true (front input)) (λ rules. sym (ap (lawf
     four rules = ap (take 4) (sym (front-and-behind input)) ∙ take-at (front input) (behind input) 4 (table-length input rules)
 
 -- then only that is printed
-pub text-unlawful : TextUnlawful
+pub text-unlawful : (input : List ℕ) → lawful true (take 4 input) ≡ false → bondtrace input ≡ badLine 12 0
 unfolding textOf
 text-unlawful input e = whole-text input ∙ cond-false _ _ _ (table-unlawful input e)
 
@@ -149,6 +121,6 @@ size-refused n (inl empty) = rw empty refl
 size-refused n (inr many) = rw (lt-leb n 32 many, and-false (leb 1 n)) refl
 
 -- then only that is printed
-pub text-refused : TextRefused
+pub text-refused : (head input : List ℕ) → lawful true head ≡ true → (threadByte head ≡ 0) ⊎ (32 < threadByte head) → bondtrace (head ++ input) ≡ badLine 1 0
 unfolding unless
 text-refused head input rules size = rw (size-refused (threadByte head) size) at (table-text head input rules)

@@ -1,6 +1,6 @@
 -- A schedule that is played as its bytes come in: the lawful records at the front of what is there, one after the other.
-use mathlib.Core.Bool.{Bool, true, false, cond, _&&_}
-use mathlib.Core.List.{List, []}
+use mathlib.Core.Bool.{Bool, false, cond, _&&_}
+use mathlib.Core.List.{List}
 use Prim.Native.Nat.{ℕ, zero, suc, _+_}
 use lib.ListN.{length, drop}
 use lib.Dec.{leb}

@@ -5,7 +5,6 @@ use native.Mathlib.Omega.{arith}
 use native.Mathlib.Numerals.{add-one}
 use native.Mathlib.Nat.{div-lt-iff-lt-mul}
 use lib.ListN.{length, take, drop, getD, length-append, length-take}
-use lib.Seq.{getD-drop}
 use lib.IntN.{ℤ, pos, negsuc, natAbs}
 use lib.Dec.{ltb}
 use borrow.Author.Tests.{lt-ltb}
@@ -16,7 +15,7 @@ use Rattle.model.specs.Calls.{State}
 use Rattle.model.specs.Promise.{view}
 use Rattle.model.specs.Bondtrace.{ascii, digit, digits, decimal, signed, Tally, threadLine, finalText, badLine}
 use Rattle.model.proofs.Laws.{by}
-use Rattle.printing.specs.Texts.{spaced, outcomeText, threadsText, longestOutcome, longestWord, longestLine, longestText, longestBadLine, Narrow}
+use Rattle.printing.specs.Texts.{spaced, outcomeText, threadsText, longestOutcome, longestWord, longestLine, longestText, longestBadLine}
 use Rattle.printing.proofs.Texts.{concat-snoc, threads-none, line-parts}
 
 -- ---- numbers
@@ -78,11 +77,6 @@ pub one-more-short : (s : State) (x : ℕ) → length (threadsText s x) ≤ long
 unfolding threadsText upTo
 one-more-short s x lines line = rw (add-one x, concat-snoc) (omega (arith, length-append (concat (upTo x (threadLine s))) (threadLine s x)))
 
--- n lines
-threads-short : (s : State) (n : ℕ) → ((x : ℕ) → x < n → length (threadLine s x) ≤ longestLine) → length (threadsText s n) ≤ longestLine * n
-threads-short s zero short = none-short s
-threads-short s (suc n) short = rw (add-one n) at (one-more-short s n (threads-short s n (λ x below. short x (omega arith))) (short n (omega arith)))
-
 -- the first line and n lines
 pub final-short : (p : Tally) → p .records < 2 ^ 64 → p .refused < 2 ^ 64 → length (threadsText (p .now) (p .now .table .n)) ≤ longestLine * p .now .table .n → length (finalText p) ≤ longestText (p .now .table .n)
 unfolding finalText threadsText ascii upTo
@@ -93,34 +87,11 @@ pub bad-short : (number place : ℕ) → number < 2 ^ 8 → place < 2 ^ 64 → l
 unfolding badLine ascii upTo
 bad-short number place small near = simp length-append (omega (arith, decimal-short 2 number (omega arith), decimal-short 19 place (omega arith)))
 
--- ---- every state that code can hold
--- each of the first n numbers of a list is below a bound that the list's are below
-take-small : (n most : ℕ) (l : List ℕ) → ((i : ℕ) → getD l i 0 < most) → (i : ℕ) → getD (take n l) i 0 < most
-take-small zero most l small i = omega (arith, small 0)
-take-small (suc n) most [] small i = small i
-take-small (suc n) most (a ∷ l) small zero = small 0
-take-small (suc n) most (a ∷ l) small (suc i) = take-small n most l (λ j. small (suc j)) i
-
--- the shown words of a narrow state
-shown-small : (s : State) → Narrow s → (x i : ℕ) → getD (view s x .words) i 0 < 2 ^ 32
-unfolding view wordsAt
-shown-small s narrow x =
-    let own = drop (8 * x) (s .store) in
-    take-small (at (s .table) x .outcome .count) (2 ^ 32) (take 8 own) (take-small 8 (2 ^ 32) own (λ i. rw getD-drop (narrow .words (8 * x + i))))
-
--- a line of one
-line-fits : (s : State) → Narrow s → (x : ℕ) → x < 2 ^ 8 → length (threadLine s x) ≤ longestLine
-line-fits s narrow x small =
-    line-short s x
-    (outcome-short x (at (s .table) x .outcome) small (narrow .codes x) (narrow .sources x) (narrow .counts x))
-    (spaced-short (view s x .words) (shown-small s narrow x))
-
--- 4096 bytes hold the final text of at most 32 threads
-pub final-fits : (p : Tally) → Narrow (p .now) → p .now .table .n ≤ 32 → p .records < 2 ^ 64 → p .refused < 2 ^ 64 → length (finalText p) ≤ 4096
-final-fits p narrow few records refused =
-    let lines = threads-short (p .now) (p .now .table .n) (λ x below. line-fits (p .now) narrow x (omega arith)) in
-    omega (arith, final-short p records refused lines)
+-- ---- a buffer of 4096 bytes
+-- it holds the final text of as many threads as a table has
+pub text-fits : (n : ℕ) → n ≤ 32 → longestText n ≤ 4096
+text-fits n few = omega arith
 
 -- and the bad line
-pub bad-fits : (number place : ℕ) → number < 2 ^ 8 → place < 2 ^ 64 → length (badLine number place) ≤ 4096
-bad-fits number place small near = omega (arith, bad-short number place small near)
+pub bad-line-fits : longestBadLine ≤ 4096
+bad-line-fits = omega arith

@@ -1,12 +1,9 @@
 -- Parts of the model's texts, as the code writes them, and the most bytes that each has.
 use mathlib.Core.List.{List, _++_, map}
-use Prim.Native.Nat.{ℕ, _+_, _*_, _^_, _<_}
-use lib.ListN.{getD}
-use lib.IntN.{natAbs}
+use Prim.Native.Nat.{ℕ, _+_, _*_}
 use Rattle.model.specs.declared.Outcome.{Outcome}
 use Rattle.model.specs.declared.Table.{Table}
 use Rattle.model.specs.Lists.{upTo, concat}
-use Rattle.model.specs.Threads.{at}
 use Rattle.model.specs.Calls.{State}
 use Rattle.model.specs.Promise.{state}
 use Rattle.model.specs.Bondtrace.{ascii, decimal, signed, Tally, threadLine}
@@ -23,6 +20,10 @@ outcomeText x u = decimal x ++ ascii " " ++ signed (u .code) ++ ascii " " ++ dec
 -- the lines of the first n threads
 unfoldable pub threadsText : State → ℕ → List ℕ
 threadsText s n = concat (upTo n (threadLine s))
+
+-- a line of two numbers, each behind its name
+unfoldable pub numbersLine : List ℕ → ℕ → List ℕ → ℕ → List ℕ
+numbersLine name n next m = name ++ decimal n ++ next ++ decimal m ++ ascii "\n"
 
 -- a tally by its parts, as a contract names them
 abbrev pub tally : Table → List ℕ → ℕ → ℕ → Tally
@@ -48,10 +49,3 @@ longestText n = 58 + longestLine * n
 -- the bad line: 4 + 3 + 4 + 20 + 1
 abbrev pub longestBadLine : ℕ
 longestBadLine = 32
-
--- what the widths of a thread's fields and of a word say of every state that code can hold
-pub record Narrow (s : State) : Type 0 where
-  pub codes : (x : ℕ) → natAbs (at (s .table) x .outcome .code) < 2 ^ 32
-  pub sources : (x : ℕ) → at (s .table) x .outcome .source < 2 ^ 8
-  pub counts : (x : ℕ) → at (s .table) x .outcome .count < 2 ^ 8
-  pub words : (i : ℕ) → getD (s .store) i 0 < 2 ^ 32

@@ -7,11 +7,20 @@ ghost use lib.IntN.{natAbs};
 ghost use Rattle.model.specs.Threads.{at, wordsAt};
 ghost use Rattle.model.specs.Promise.{state};
 ghost use Rattle.model.specs.Bondtrace.{decimal, signed, threadLine, finalText, badLine};
-ghost use Rattle.printing.specs.Texts.{spaced, outcomeText, threadsText, tally};
+ghost use Rattle.printing.specs.Texts.{spaced, outcomeText, threadsText, numbersLine, tally};
 ghost use Rattle.printing.specs.Texts.{longestWord, longestOutcome, longestLine, longestText, longestBadLine};
 ghost use Rattle.printing.specs.Writing.{Written, Printed};
 use model::Outcome;
 use model::Table;
+
+// What stands between two words of a line.
+const SPACE: u8 = b' ';
+
+// What ends a line.
+const NEWLINE: u8 = b'\n';
+
+// What stands before a number below 0.
+const MINUS: u8 = b'-';
 
 // One byte at a place.
 pub fn put_byte(out: &mut [u8], start: usize, byte: u8) -> usize
@@ -63,7 +72,7 @@ pub fn put_signed(out: &mut [u8], start: usize, code: i32) -> usize
 {
     let n = magnitude(code);
     if code < 0 {
-        let end = put_byte(out, start, 45);
+        let end = put_byte(out, start, MINUS);
         return put_number(out, end, n);
     }
     put_number(out, start, n)
@@ -77,7 +86,7 @@ pub fn put_words(out: &mut [u8], start: usize, words: &[u32]) -> usize
     let mut end = start;
     let mut i: usize = 0;
     while i < words.len() {
-        let spaced = put_byte(out, end, 32);
+        let spaced = put_byte(out, end, SPACE);
         end = put_number(out, spaced, words[i] as u64);
         i += 1;
     }
@@ -110,11 +119,11 @@ fn put_outcome(out: &mut [u8], start: usize, x: u8, shown: Outcome) -> usize
     ensures { λ _. ⌜ length (outcomeText x shown) ≤ longestOutcome ⌝ }
 {
     let numbered = put_number(out, start, x as u64);
-    let first = put_byte(out, numbered, 32);
+    let first = put_byte(out, numbered, SPACE);
     let coded = put_signed(out, first, shown.code);
-    let second = put_byte(out, coded, 32);
+    let second = put_byte(out, coded, SPACE);
     let sourced = put_number(out, second, shown.source as u64);
-    let third = put_byte(out, sourced, 32);
+    let third = put_byte(out, sourced, SPACE);
     put_number(out, third, shown.count as u64)
 }
 
@@ -126,7 +135,7 @@ fn put_thread(out: &mut [u8], start: usize, x: u8, shown: Outcome, store: &[u32]
     let words = shown_words(store, x, shown.count);
     let told = put_outcome(out, start, x, shown);
     let ended = put_words(out, told, words);
-    put_byte(out, ended, 10)
+    put_byte(out, ended, NEWLINE)
 }
 
 // The lines of all threads. Past the table's 32 threads everything is zero.
@@ -156,25 +165,28 @@ fn put_threads(table: Table, store: &[u32], start: usize, out: &mut [u8]) -> usi
     end
 }
 
+// A first line that tells two numbers, each behind its name.
+fn put_numbers(out: &mut [u8], name: &[u8], n: u64, next: &[u8], m: u64) -> usize
+    ensures { λ r. ⌜ Written 0 (numbersLine (now (name .entry)) n (now (next .entry)) m) (now (out .entry)) (now (out .exit)) r ⌝ }
+{
+    let named = put_text(out, 0, name);
+    let first = put_number(out, named, n);
+    let again = put_text(out, first, next);
+    let second = put_number(out, again, m);
+    put_byte(out, second, NEWLINE)
+}
+
 // What is printed of a schedule that is not refused: how many records were read and calls refused, and a line for each thread.
 pub fn final_text(table: Table, store: &[u32], records: u64, refused: u64, out: &mut [u8]) -> usize
     ensures { λ r. ⌜ Printed (finalText (tally table (now (store .entry)) records refused)) (longestText (table .n)) (now (out .entry)) (now (out .exit)) r ⌝ }
 {
-    let first = put_text(out, 0, b"records ");
-    let read = put_number(out, first, records);
-    let second = put_text(out, read, b" refused ");
-    let told = put_number(out, second, refused);
-    let ended = put_byte(out, told, 10);
-    put_threads(table, store, ended, out)
+    let told = put_numbers(out, b"records ", records, b" refused ", refused);
+    put_threads(table, store, told, out)
 }
 
 // The line for a schedule that is refused: the refusal's number, and the byte where the refused record starts.
 pub fn bad_line(number: u8, place: u64, out: &mut [u8]) -> usize
     ensures { λ r. ⌜ Printed (badLine number place) longestBadLine (now (out .entry)) (now (out .exit)) r ⌝ }
 {
-    let named = put_text(out, 0, b"bad ");
-    let numbered = put_number(out, named, number as u64);
-    let joined = put_text(out, numbered, b" at ");
-    let placed = put_number(out, joined, place);
-    put_byte(out, placed, 10)
+    put_numbers(out, b"bad ", number as u64, b" at ", place)
 }

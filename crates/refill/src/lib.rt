@@ -17,8 +17,8 @@ fn move_down(buffer: &mut [u8], start: usize, n: usize)
     }
 }
 
-// Moves the bytes from start to end down to the front and reads the buffer full behind them; answers how many bytes there are now. If they do not
-// fill the buffer, the input has ended.
+// Moves the bytes from start to end down to the front and reads the buffer full behind them; answers how many bytes there are now. Where nothing
+// was read though there was room (the answer is end - start, and less than the buffer's length), the input has ended or cannot be read.
 pub fn refill(input: i32, buffer: &mut [u8], start: usize, end: usize) -> usize
     requires { ⌜ start ≤ end ⌝ }
     requires { ⌜ end ≤ length (now buffer) ⌝ }

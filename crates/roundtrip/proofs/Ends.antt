@@ -9,11 +9,12 @@ use native.Mathlib.Omega.{arith}
 use lib.ListN.{length, drop, length-append}
 use Rattle.model.specs.declared.Record.{Record}
 use Rattle.model.specs.Lists.{concat}
-use Rattle.model.specs.Schedule.{recordLength, kindByte, front, lawful, recordOf, encode, Fault, Reading, readFrom, encodeAll}
+use Rattle.model.specs.Schedule.{front, lawful, AllLawful, recordOf, encode, lawfulRecord, Fault, Reading, readFrom, encodeAll}
 use Rattle.model.proofs.Laws.{by}
+use Rattle.laws.proofs.Schedule.{front-and-behind}
 use Rattle.roundtrip.specs.Fits.{Bytes, AllFit}
 use Rattle.roundtrip.specs.WholeSchedule.{LawfulSoFar, told}
-use Rattle.roundtrip.proofs.Lists.{take-and-rest, drop-under}
+use Rattle.roundtrip.proofs.Lists.{drop-under}
 use Rattle.roundtrip.proofs.Records.{front-bytes, record-written, record-lawful, record-fits}
 use Rattle.roundtrip.proofs.Reading.{atEnd, reads-none, reads-fault, later, reads-one, enough}
 
@@ -61,9 +62,14 @@ ends-at-fault first place input e f =
     more false (a ∷ l) e d = omega arith
 
 -- where the first is told otherwise, all behind it are
-pub told-otherwise : (records : List Record) → told false records ≡ false
+told-otherwise : (records : List Record) → told false records ≡ false
 told-otherwise [] = refl
 told-otherwise (r ∷ records) = refl
+
+-- records that are lawful so far are lawful where there is one
+pub lawful-all : (first : Bool) (records : List Record) → LawfulSoFar first records → told first records ≡ false → AllLawful lawfulRecord first records
+lawful-all first [] rules e = e
+lawful-all first (r ∷ records) rules e = rules
 
 -- past a lawful record
 module _ (first : Bool) (place : ℕ) (input : List ℕ) (u : Bytes input) (rules : lawful first (front input) ≡ true) (reading : Reading)
@@ -85,17 +91,14 @@ module _ (first : Bool) (place : ℕ) (input : List ℕ) (u : Bytes input) (rule
   more-whole : input ≡ encodeAll (more .records) ++ ends .rest
   unfolding encodeAll concat
   more-whole = sym (append-assoc (encode (recordOf (front input))) (encodeAll (reading .records)) (ends .rest)
-      ∙ rw written (rw (← ends .whole) front-and-rest))
-    where
-      front-and-rest : front input ++ drop (length (front input)) input ≡ input
-      front-and-rest = unfold front in take-and-rest (recordLength (kindByte input)) input
+      ∙ rw written (rw (← ends .whole) (front-and-behind input)))
 
   -- reading ends as it does there
   ends-past : Ends first place input more
   ends-past = record {
     rest = ends .rest;
     whole = more-whole;
-    lawfully = (record-lawful first (front input) rules (front-bytes input u), ends .lawfully);
+    lawfully = (record-lawful first (front input) rules (front-bytes input u), lawful-all false (reading .records) (ends .lawfully) (told-otherwise (reading .records)));
     fits = (record-fits first (front input) rules (front-bytes input u), ends .fits);
     end = past (ends .end);
   }

@@ -1,35 +1,14 @@
--- Laws of lists put together from lists, and of bounds on numbers of lists. None is about schedules.
-use mathlib.Core.Path.{_≡_, refl, sym, ap, _∙_}
-use mathlib.Core.List.{List, [], _∷_, _++_, append-assoc}
+-- Laws of bounds on the numbers of a list. None is about schedules.
+use mathlib.Core.List.{List, [], _∷_, _++_}
 use Prim.Native.Nat.{ℕ, zero, suc, _<_}
 use native.Mathlib.Omega.{arith}
-use lib.ListN.{length, take, drop, replicate}
+use lib.ListN.{drop, replicate}
 use lib.Seq.{getD-drop}
-use Rattle.model.specs.Lists.{concat, upTo}
+use Rattle.model.specs.Lists.{upTo}
 use Rattle.roundtrip.specs.Fits.{AllUnder}
 
--- lists of lists put together one after the other
-pub concat-append {ℓ} : {A : Type ℓ} (ls ms : List (List A)) → concat (ls ++ ms) ≡ concat ls ++ concat ms
-unfolding concat
-concat-append [] ms = refl
-concat-append (l ∷ ls) ms = ap (λ q. l ++ q) (concat-append ls ms) ∙ sym (append-assoc l (concat ls) (concat ms))
-
--- the first numbers of a list and what is left past them, where the list may have fewer
-pub take-and-rest {ℓ} : {A : Type ℓ} (n : ℕ) (l : List A) → take n l ++ drop (length (take n l)) l ≡ l
-take-and-rest zero l = refl
-take-and-rest (suc n) [] = refl
-take-and-rest (suc n) (a ∷ l) = ap (λ q. a ∷ q) (take-and-rest n l)
-
--- ---- numbers under a bound
 module _ (bound : ℕ) where
-  -- the first of them
-  pub take-under : (n : ℕ) (l : List ℕ) → AllUnder bound l → AllUnder bound (take n l)
-  take-under zero l u i = omega (arith, u 0)
-  take-under (suc n) [] u i = u i
-  take-under (suc n) (a ∷ l) u zero = u 0
-  take-under (suc n) (a ∷ l) u (suc i) = take-under n l (λ j. u (suc j)) i
-
-  -- those past the first
+  -- the numbers past the first few
   pub drop-under : (n : ℕ) (l : List ℕ) → AllUnder bound l → AllUnder bound (drop n l)
   drop-under n l u i = rw (getD-drop n l i 0) (u _)
 
@@ -40,7 +19,7 @@ module _ (bound : ℕ) where
   append-under (a ∷ l) m u v (suc i) = append-under l m (λ j. u (suc j)) v i
 
   -- one more in front
-  pub cons-under : (a : ℕ) (l : List ℕ) → a < bound → AllUnder bound l → AllUnder bound (a ∷ l)
+  cons-under : (a : ℕ) (l : List ℕ) → a < bound → AllUnder bound l → AllUnder bound (a ∷ l)
   cons-under a l h u zero = h
   cons-under a l h u (suc i) = u i
 

@@ -89,7 +89,7 @@ record-is-written first r buffer rules room =
     let zero : encodeRefusal first r buffer ≡ 0 = write-accepted first r buffer (and-made _ _ rules (le-leb (length (encode r)) (length buffer) room)) in
     record {
       answers = rw zero refl;
-      run = rw zero refl;
+      buffer = rw zero refl;
       sameLength = rw (zero, length-append, length-drop) (omega arith);
       reads = λ fits. rw zero (read-written first r (drop (length (encode r)) buffer) fits rules);
     }
@@ -97,7 +97,7 @@ record-is-written first r buffer rules room =
 -- all else is refused in writing
 pub writing-refused : WritingRefused
 unfolding encodeAnswer encodeBuffer unless
-writing-refused first r buffer why = record { answers = rw twelve refl; run = rw twelve refl }
+writing-refused first r buffer why = record { answers = rw twelve refl; buffer = rw twelve refl }
   where
     fails : (lawfulRecord first r ≡ false) ⊎ (length buffer < length (encode r)) → writable first r buffer ≡ false
     fails (inl e) = rw e refl
@@ -124,7 +124,7 @@ written-was-lawful first r buffer e =
     (λ short. absurd (not-refused 12 (sym (writing-refused first r buffer (inr (leb-false (length (encode r)) (length buffer) short)) .answers) ∙ e))))
     (λ f. absurd (not-refused 12 (sym (writing-refused first r buffer (inl f) .answers) ∙ e)))
 
--- writing a record and then reading the run gives the record back
+-- writing a record and then reading the buffer gives the record back
 pub write-then-read : WriteThenRead
 write-then-read first r buffer after wrote read item fits writing done reading =
     let (rules, room) = written-was-lawful first r buffer (sym (writing .answers) ∙ done) in
@@ -138,4 +138,4 @@ read-then-write first input buffer after read wrote item u reading done writing 
     let back = written-read first input u rules in
     let same : item ≡ recordOf (front input) = reading .reads ∙ back .reads .item in
     let written : Writes first item buffer = rw same (record-is-written first (recordOf (front input)) buffer (back .lawfully) (rw (← back .reads .takes) room)) in
-    (writing .answers ∙ written .answers, writing .writes ∙ written .run ∙ ap (λ (l : List ℕ). l ++ drop (length l) buffer) (ap encode same ∙ sym (back .reads .takes)))
+    (writing .answers ∙ written .answers, writing .writes ∙ written .buffer ∙ ap (λ (l : List ℕ). l ++ drop (length l) buffer) (ap encode same ∙ sym (back .reads .takes)))

@@ -3,14 +3,15 @@ use mathlib.Core.Path.{_≡_, refl, ap, _∙_}
 use mathlib.Core.Bool.{Bool, true, false, not, _&&_}
 use mathlib.Core.Option.{none, some}
 use mathlib.Core.List.{List, [], _∷_, _++_, map}
-use Prim.Native.Nat.{ℕ, zero, suc, _+_, _≤_, _<_}
+use Prim.Native.Nat.{ℕ, zero, suc, _+_, _<_}
 use native.Mathlib.Omega.{arith}
-use lib.ListN.{length, drop, length-append, length-drop, length-take}
+use lib.ListN.{length, drop, length-append}
 use lib.Seq.{drop-append-seam}
 use Rattle.model.specs.Lists.{concat}
 use Rattle.model.specs.Refusals.{unless}
-use Rattle.model.specs.Schedule.{recordLength, kindByte, front, lawful, AllLawful, recordOf, isEmpty, Reading, readFrom}
-use Rattle.roundtrip.proofs.Records.{lawful-least, front-lawful}
+use Rattle.model.specs.Schedule.{front, lawful, AllLawful, recordOf, isEmpty, Reading, readFrom}
+use Rattle.laws.proofs.Schedule.{front-length, lawful-least, lawful-head-long}
+use Rattle.roundtrip.proofs.Records.{front-lawful}
 use Rattle.roundtrip.proofs.OneRecord.{read-accepted, read-refused}
 
 -- a list with a number in it is not empty
@@ -26,11 +27,6 @@ atEnd first input = not first && isEmpty input
 pub not-at-end : (first : Bool) (input : List ℕ) → 0 < length input → atEnd first input ≡ false
 not-at-end true input h = refl
 not-at-end false input h = not-empty input h
-
--- the front of an input is at most as long
-front-length : (input : List ℕ) → length (front input) ≤ length input
-unfolding front
-front-length input = rw (length-take (recordLength (kindByte input)) input) (omega arith)
 
 module _ (most : ℕ) (first : Bool) (place : ℕ) (input : List ℕ) where
   -- at the end reading stops with no fault
@@ -51,11 +47,11 @@ module _ (most : ℕ) (first : Bool) (place : ℕ) (input : List ℕ) where
     -- past a lawful record it goes on
     pub reads-one : readFrom (suc most) first place input ≡ record { records = recordOf (front input) ∷ later .records; fault = later .fault }
     unfolding readFrom unless
-    reads-one = rw (not-at-end first input (omega (arith, lawful-least first (front input) rules, front-length input)), read-accepted first input rules) refl
+    reads-one = rw (not-at-end first input (omega (arith, lawful-head-long input first rules)), read-accepted first input rules) refl
 
     -- and as many records are allowed for as may be left
     pub enough : length input < suc most → length (drop (length (front input)) input) < most
-    enough h = rw length-drop (omega (arith, lawful-least first (front input) rules, front-length input))
+    enough h = omega (arith, lawful-least first (front input) rules, front-length input)
 
 -- lawful records in a row are read to the end
 pub reads-lawful : (pieces : List (List ℕ)) (most : ℕ) (first : Bool) (place : ℕ) → length (concat pieces) < most → AllLawful lawful first pieces

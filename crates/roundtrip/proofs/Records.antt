@@ -2,26 +2,28 @@
 use mathlib.Core.Path.{_≡_, refl, sym, ap, _∙_}
 use mathlib.Core.Bool.{Bool, true, false, not, cond}
 use mathlib.Core.List.{List, [], _∷_, _++_}
-use Prim.Native.Nat.{ℕ, _≤_}
+use Prim.Native.Nat.{ℕ}
 use native.Mathlib.Omega.{arith}
 use lib.ListN.{length, replicate, List·getD-append}
 use lib.Seq.{take-all, take-at}
 use lib.Dec.{eqb}
-use borrow.Author.Tests.{eqb-true, not-true}
+use borrow.Author.Tests.{eqb-true, eqb-false, not-true}
 use Rattle.model.specs.declared.Operation.{Operation}
 use Rattle.model.specs.declared.Record.{Record}
 use Rattle.model.specs.Lists.{concat, upTo}
 use Rattle.model.specs.Threads.{noOperation}
 use Rattle.model.specs.Schedule.{beginKind, recordLength, byte, kindByte, sendBit, receiveBit, openBit, wordAt, wordBytes, partsOf, operationOf, operationBytes, lawfulBegin, lawful, recordOf, front, encode, allZero, lawfulRecord}
 use Rattle.model.proofs.Laws.{by, and-left, and-right, implies-read, implies-made, all-of-read, all-of-made, _and_}
+use Rattle.laws.proofs.Joined.{take-under}
+use Rattle.laws.proofs.Schedule.{record-begin, record-other, words-length, lawful-length, lawful-least}
 use Rattle.roundtrip.specs.Fits.{Bytes, FitsOperation, FitsRecord}
-use Rattle.roundtrip.proofs.Lists.{take-under, replicate-under}
-use Rattle.roundtrip.proofs.Words.{words-length, four-bytes}
+use Rattle.roundtrip.proofs.Lists.{replicate-under}
+use Rattle.roundtrip.proofs.Words.{four-bytes}
 use Rattle.roundtrip.proofs.Operations.{operation-read, operation-written, operation-fits}
 
 -- ---- no operation
 -- an operation of eight words takes 38 bytes
-operation-length : (o : Operation) → length (o .send .words) ≡ 8 → length (operationBytes o) ≡ 38
+pub operation-length : (o : Operation) → length (o .send .words) ≡ 8 → length (operationBytes o) ≡ 38
 unfolding operationBytes
 operation-length o e = omega (arith, words-length (o .send .words))
 
@@ -61,11 +63,6 @@ no-operation-fits = record {
 }
 
 -- ---- lawful bytes
--- a record takes 4 bytes or 42
-length-least : (kind : ℕ) → 4 ≤ recordLength kind
-unfolding recordLength
-length-least kind = by (eqb kind beginKind) (λ e. rw e (omega arith)) (λ e. rw e (omega arith))
-
 -- the front of bytes has bytes
 pub front-bytes : (input : List ℕ) → Bytes input → Bytes (front input)
 unfolding front
@@ -79,15 +76,6 @@ module _ (first : Bool) (bytes : List ℕ) (rules : lawful first bytes ≡ true)
       let (mark, (secondMark, others)) = all-of-read _ rules in
       λ i. sym (eqb-true (byte bytes 0) 0x4C mark) i ∷ sym (eqb-true (byte bytes 1) 0x34 secondMark) i ∷ rest
 
-  -- they are as many as their kind says
-  pub lawful-length : length bytes ≡ recordLength (kindByte bytes)
-  unfolding lawful
-  lawful-length = eqb-true (length bytes) (recordLength (kindByte bytes)) (all-of-read _ rules .1 .1 .1 .1 .0)
-
-  -- at least four
-  pub lawful-least : 4 ≤ length bytes
-  lawful-least = omega (arith, lawful-length, length-least (kindByte bytes))
-
   -- those of a begin are lawful in its own way
   begin-rules : eqb (kindByte bytes) beginKind ≡ true → lawfulBegin bytes ≡ true
   unfolding lawful
@@ -95,18 +83,16 @@ module _ (first : Bool) (bytes : List ℕ) (rules : lawful first bytes ≡ true)
 
   -- and 42
   begin-length : eqb (kindByte bytes) beginKind ≡ true → length bytes ≡ 42
-  unfolding recordLength
-  begin-length e = lawful-length ∙ rw e refl
+  begin-length e = lawful-length first bytes rules ∙ record-begin (kindByte bytes) (eqb-true _ _ e)
 
   -- the others are four
   short-length : eqb (kindByte bytes) beginKind ≡ false → length bytes ≡ 4
-  unfolding recordLength
-  short-length e = lawful-length ∙ rw e refl
+  short-length e = lawful-length first bytes rules ∙ record-other (kindByte bytes) (eqb-false _ _ e)
 
   -- they are the front of what starts with them
   pub front-lawful : (rest : List ℕ) → front (bytes ++ rest) ≡ bytes
   unfolding front
-  front-lawful rest = take-at bytes rest (recordLength (kindByte (bytes ++ rest))) (lawful-length ∙ ap recordLength (sym (List·getD-append bytes rest 0 2 (omega (arith, lawful-least)))))
+  front-lawful rest = take-at bytes rest (recordLength (kindByte (bytes ++ rest))) (lawful-length first bytes rules ∙ ap recordLength (sym (List·getD-append bytes rest 0 2 (omega (arith, lawful-least first bytes rules)))))
 
   -- the record that they stand for is written as they are
   pub record-written : Bytes bytes → encode (recordOf bytes) ≡ bytes
@@ -114,7 +100,7 @@ module _ (first : Bool) (bytes : List ℕ) (rules : lawful first bytes ≡ true)
   record-written u = marked _ ∙ by (eqb (kindByte bytes) beginKind) (λ e. rw e (operation-written bytes (begin-rules e) u (begin-length e))) (λ e. rw e (four e))
     where
       four : eqb (kindByte bytes) beginKind ≡ false → byte bytes 0 ∷ byte bytes 1 ∷ byte bytes 2 ∷ byte bytes 3 ∷ [] ≡ bytes
-      four e = sym (four-bytes bytes lawful-least) ∙ take-all 4 bytes (omega (arith, short-length e))
+      four e = sym (four-bytes bytes (lawful-least first bytes rules)) ∙ take-all 4 bytes (omega (arith, short-length e))
 
   -- it is lawful
   pub record-lawful : Bytes bytes → lawfulRecord first (recordOf bytes) ≡ true

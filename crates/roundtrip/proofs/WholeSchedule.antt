@@ -11,12 +11,12 @@ use Rattle.model.specs.declared.Record.{Record}
 use Rattle.model.specs.Lists.{concat}
 use Rattle.model.specs.Schedule.{lawful, lawfulRecord, AllLawful, LawfulRecords, LawfulSchedule, recordOf, encode, Reading, encodeAll, decodeAll}
 use Rattle.roundtrip.specs.Fits.{AllFit}
-use Rattle.roundtrip.specs.WholeSchedule.{ScheduleReadWritten, Complete, ScheduleWrittenRead, ScheduleBytes, LawfulSoFar, told, Stopped, ReadingEnds, FaultTells}
+use Rattle.roundtrip.specs.WholeSchedule.{ScheduleReadWritten, Complete, ScheduleWrittenRead, ScheduleBytes, Stopped, ReadingEnds, FaultTells}
 use Rattle.roundtrip.proofs.Lists.{append-under, nil-under}
 use Rattle.roundtrip.proofs.Records.{bytes-lawful, record-read}
 use Rattle.roundtrip.proofs.OneRecord.{record-bytes}
 use Rattle.roundtrip.proofs.Reading.{reads-lawful}
-use Rattle.roundtrip.proofs.Ends.{Finished, Faulty, Ends, faultAt, told-otherwise, reading-ends}
+use Rattle.roundtrip.proofs.Ends.{Finished, Faulty, Ends, faultAt, lawful-all, reading-ends}
 
 -- ---- lawful schedules
 -- lawful records have lawful bytes
@@ -54,11 +54,6 @@ schedule-bytes [] fits = nil-under 256 (omega arith)
 schedule-bytes (r ∷ records) fits = append-under 256 (encode r) (encodeAll records) (record-bytes r (fits .0)) (schedule-bytes records (fits .1))
 
 -- ---- any bytes
--- records that are lawful so far are lawful where there is one
-lawful-all : (first : Bool) (records : List Record) → LawfulSoFar first records → told first records ≡ false → AllLawful lawfulRecord first records
-lawful-all first [] rules e = e
-lawful-all first (r ∷ records) rules e = (rules .0, lawful-all false records (rules .1) (told-otherwise records))
-
 -- a reading that stopped has a fault
 has-fault : (bytes : List ℕ) (reading : Reading) → Stopped bytes reading → reading .fault ≡ none → ⊥
 has-fault bytes reading s e = Option·none-ne-some _ (sym e ∙ s .fault)

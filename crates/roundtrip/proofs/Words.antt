@@ -1,6 +1,6 @@
 -- A word as four bytes, "low byte first", and back.
 use mathlib.Core.Path.{_≡_, refl, sym, ap, _∙_}
-use mathlib.Core.List.{List, [], _∷_, _++_, map, map-append, append-nil}
+use mathlib.Core.List.{List, [], _∷_, _++_, map, map-append}
 use Prim.Native.Nat.{ℕ, zero, suc, _+_, _*_, _/_, _%_, _≤_, _<_}
 use native.Mathlib.Omega.{arith}
 use native.Mathlib.Nat.{div-div-eq-div-mul}
@@ -9,20 +9,21 @@ use lib.Seq.{getD-drop, drop-append-add, drop-drop, take-all, take-add}
 use Rattle.model.specs.Lists.{concat, upTo}
 use Rattle.model.specs.Schedule.{byte, wordBytes, wordAt}
 use Rattle.laws.proofs.Lists.{take-up-to}
+use Rattle.laws.proofs.Joined.{concat-snoc}
 use Rattle.roundtrip.specs.Fits.{AllUnder, Bytes}
-use Rattle.roundtrip.proofs.Lists.{concat-append, drop-under, append-under, nil-under}
+use Rattle.roundtrip.proofs.Lists.{drop-under, append-under, nil-under}
 
 -- the word of the first four bytes
-abbrev pub firstWord : List ℕ → ℕ
+abbrev firstWord : List ℕ → ℕ
 firstWord bytes = byte bytes 0 + 256 * byte bytes 1 + 65536 * byte bytes 2 + 16777216 * byte bytes 3
 
 -- a word is put together again from its bytes
-pub word-read : (word : ℕ) (rest : List ℕ) → word < 0x1_0000_0000 → firstWord (wordBytes word ++ rest) ≡ word
+word-read : (word : ℕ) (rest : List ℕ) → word < 0x1_0000_0000 → firstWord (wordBytes word ++ rest) ≡ word
 unfolding wordBytes
 word-read word rest small = rw (← div-div-eq-div-mul word 256 256, ← div-div-eq-div-mul word 65536 256) (omega arith)
 
 -- bytes are the bytes of their word
-pub word-written : (a b c d : ℕ) → a < 256 → b < 256 → c < 256 → d < 256 → wordBytes (a + 256 * b + 65536 * c + 16777216 * d) ≡ a ∷ b ∷ c ∷ d ∷ []
+word-written : (a b c d : ℕ) → a < 256 → b < 256 → c < 256 → d < 256 → wordBytes (a + 256 * b + 65536 * c + 16777216 * d) ≡ a ∷ b ∷ c ∷ d ∷ []
 unfolding wordBytes
 word-written a b c d i j k l =
     let word : ℕ = a + 256 * b + 65536 * c + 16777216 * d in
@@ -49,7 +50,7 @@ byte-past : (n k m : ℕ) (bytes : List ℕ) → n + k ≡ m → byte (drop n by
 byte-past n k m bytes e = getD-drop n bytes k 0 ∙ ap (byte bytes) e
 
 -- the i-th word stands past ten bytes and i words
-pub word-place : (bytes : List ℕ) (i : ℕ) → wordAt bytes i ≡ firstWord (drop (10 + 4 * i) bytes)
+word-place : (bytes : List ℕ) (i : ℕ) → wordAt bytes i ≡ firstWord (drop (10 + 4 * i) bytes)
 unfolding wordAt
 word-place bytes i =
     let n : ℕ = 10 + 4 * i in
@@ -70,13 +71,7 @@ words-past (w ∷ words) (suc i) l =
     let e : 4 * suc i ≡ 4 + 4 * i = omega arith in
     rw e (past-word w (4 * i) (concat (map wordBytes words)) ∙ words-past words i (omega arith))
 
--- they take four bytes each
-pub words-length : (words : List ℕ) → length (concat (map wordBytes words)) ≡ 4 * length words
-unfolding concat wordBytes
-words-length [] = refl
-words-length (w ∷ words) = omega (arith, words-length words)
-
--- their bytes are bytes
+-- the bytes of words are bytes
 pub words-bytes : (words : List ℕ) → Bytes (concat (map wordBytes words))
 unfolding concat
 words-bytes [] = nil-under 256 (omega arith)
@@ -108,7 +103,7 @@ unfolding concat upTo
 words-written bytes u zero long = refl
 words-written bytes u (suc k) long =
     let e : 4 * suc k ≡ 4 * k + 4 = omega arith in
-    rw (e, take-add (4 * k) 4 (drop 10 bytes), map-append, concat-append, words-written bytes u k (omega arith), append-nil, drop-drop (4 * k) 10 bytes, word-place)
+    rw (e, take-add (4 * k) 4 (drop 10 bytes), map-append, concat-snoc, words-written bytes u k (omega arith), drop-drop (4 * k) 10 bytes, word-place)
     (ap (λ q. take (4 * k) (drop 10 bytes) ++ q) (first-written (drop (10 + 4 * k) bytes) (drop-under 256 (10 + 4 * k) bytes u) (rw length-drop (omega arith))))
 
 -- a word of bytes is within 32 bits

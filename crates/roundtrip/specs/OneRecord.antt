@@ -47,35 +47,35 @@ ReadingRefused = (first : Bool) (input : List ℕ) → lawful first (front input
 abbrev pub BytesWritten : Type 0
 BytesWritten = (r : Record) → FitsRecord r → Bytes (encode r)
 
--- writing is accepted: the record stands at the front, "the lent run past the record unchanged", and reading gives it back
-pub record Writes (first : Bool) (r : Record) (buffer : List ℕ) : Type 0 where
-  pub answers : encodeAnswer first r buffer ≡ replied accepted
-  pub run : encodeBuffer first r buffer ≡ encode r ++ drop (length (encode r)) buffer
-  pub sameLength : length (encodeBuffer first r buffer) ≡ length buffer
-  pub reads : FitsRecord r → Reads first (encodeBuffer first r buffer) r
+-- writing is accepted: the record stands at the front of the buffer, which is unchanged past it, and reading gives it back
+pub record Writes (first : Bool) (r : Record) (before : List ℕ) : Type 0 where
+  pub answers : encodeAnswer first r before ≡ replied accepted
+  pub buffer : encodeBuffer first r before ≡ encode r ++ drop (length (encode r)) before
+  pub sameLength : length (encodeBuffer first r before) ≡ length before
+  pub reads : FitsRecord r → Reads first (encodeBuffer first r before) r
 
--- writing is refused, and "the run unchanged"
-pub record RefusesToWrite (first : Bool) (r : Record) (buffer : List ℕ) : Type 0 where
-  pub answers : encodeAnswer first r buffer ≡ refused 12
-  pub run : encodeBuffer first r buffer ≡ buffer
+-- writing is refused, and the buffer is unchanged
+pub record RefusesToWrite (first : Bool) (r : Record) (before : List ℕ) : Type 0 where
+  pub answers : encodeAnswer first r before ≡ refused 12
+  pub buffer : encodeBuffer first r before ≡ before
 
 -- a lawful record is written where it has room
 abbrev pub RecordWritten : Type 0
 RecordWritten = (first : Bool) (r : Record) (buffer : List ℕ) → lawfulRecord first r ≡ true → length (encode r) ≤ length buffer → Writes first r buffer
 
--- "in writing, record unlawful or the lent run shorter than it"
+-- a record that is unlawful, or longer than the buffer, is not written
 abbrev pub WritingRefused : Type 0
 WritingRefused = (first : Bool) (r : Record) (buffer : List ℕ) → (lawfulRecord first r ≡ false) ⊎ (length buffer < length (encode r)) → RefusesToWrite first r buffer
 
 -- ---- what two calls promise together
--- writing a record and then reading the run gives the record back
+-- writing a record and then reading the buffer gives the record back
 abbrev pub WriteThenRead : Type 0
 WriteThenRead =
     (first : Bool) (r : Record) (buffer after : List ℕ) (wrote read : Answer) (item : Record) → FitsRecord r
     → EncodePromise first r buffer wrote after → said wrote ≡ replied accepted → DecodePromise first after read item
     → (said read ≡ replied accepted) × (item ≡ r)
 
--- reading a record and then writing it into a run with room puts the same bytes there
+-- reading a record and then writing it into a buffer with room puts the same bytes there
 abbrev pub ReadThenWrite : Type 0
 ReadThenWrite =
     (first : Bool) (input buffer after : List ℕ) (read wrote : Answer) (item : Record) → Bytes input

@@ -7,7 +7,7 @@ use mathlib.Core.List.{List, [], _∷_, _++_}
 use Prim.Native.Nat.{ℕ, _<_}
 use lib.ListN.{length}
 use Rattle.model.specs.declared.Record.{Record}
-use Rattle.model.specs.Schedule.{front, lawful, lawfulRecord, LawfulRecords, LawfulSchedule, Reading, encodeAll, decodeAll}
+use Rattle.model.specs.Schedule.{front, lawful, lawfulRecord, AllLawful, LawfulRecords, LawfulSchedule, Reading, encodeAll, decodeAll}
 use Rattle.roundtrip.specs.Fits.{Bytes, AllFit}
 
 -- ---- lawful schedules
@@ -36,10 +36,10 @@ abbrev pub ScheduleBytes : Type 0
 ScheduleBytes = (records : List Record) → AllFit records → Bytes (encodeAll records)
 
 -- ---- any bytes
--- records in a row that are lawful, the first of them told that it is the first; there may be none
+-- records in a row that are lawful, the first of them told whether it is the first; there may be none
 abbrev pub LawfulSoFar : Bool → List Record → Type 0
 LawfulSoFar first [] = Unit {0}
-LawfulSoFar first (r ∷ rest) = (lawfulRecord first r ≡ true) × LawfulSoFar false rest
+LawfulSoFar first (r ∷ rest) = AllLawful lawfulRecord first (r ∷ rest)
 
 -- what a record behind these is told: that it is the first where there are none
 abbrev pub told : Bool → List Record → Bool

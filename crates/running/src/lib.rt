@@ -1,51 +1,62 @@
 // What program bondtrace does, with any descriptor as its input: a schedule of any length is played in constant memory, and its end is printed.
 ghost use mathlib.Core.Path.{_≡_};
-ghost use Prim.Native.Nat.{_≤_};
-ghost use lib.ListN.{length};
+ghost use mathlib.Core.Bool.{Bool};
+ghost use mathlib.Core.List.{List, _++_};
+ghost use Prim.Native.Nat.{ℕ, _≤_};
+ghost use lib.ListN.{length, take};
+ghost use Rattle.io.specs.Counts.{Counts};
+ghost use Rattle.model.specs.Bondtrace.{bondtrace};
 ghost use Rattle.trace.specs.Playback.{Steady};
+ghost use Rattle.trace.specs.Known.{Reached};
+ghost use Rattle.running.specs.Input.{Starts, Over};
+use libc::STDOUT_FILENO;
 use trace::Playback;
-
-// Standard output.
-const OUTPUT: i32 = 1;
 
 // How often the buffer is filled at most: with 65,536 bytes each time, no counter comes near its end.
 const MOST_REFILLS: u64 = 140737488355328;
 
-// Prints that a record is refused, and at which byte it starts.
-fn print_bad(number: u8, place: u64) {
-    let mut out = io::buffer();
-    let n = printing::bad_line(number, place, &mut out);
-    io::write_all(OUTPUT, &out[..n]);
-}
-
-// Prints how many records were read and calls refused, and how each thread stands.
-fn print_end(playback: Playback, store: &[u32]) {
-    let mut out = io::buffer();
-    let table = playback.table;
-    let n = printing::final_text(table, store, playback.records, playback.refused, &mut out);
-    io::write_all(OUTPUT, &out[..n]);
-}
-
-// The input has ended, with some bytes left of a record that is cut short, or with none.
-fn finish(playback: Playback, store: &[u32], left: usize) {
+// The text for a playback behind which some bytes are left, or none, when nothing more is played.
+fn end_text(playback: Playback, store: &[u32], left: usize, out: &mut [u8]) -> usize
+    requires { ⌜ Steady playback ⌝ }
+    requires { ⌜ length (now out) ≡ 4096 ⌝ }
+    ensures counts { λ r. ⌜ Counts r (now (out .exit)) ⌝ }
+    ensures text { λ r. ⌜ ((head input rest : List ℕ) (bad : Bool) → Reached head input bad playback (now (store .entry)) rest → length rest ≡ left → take r (now (out .exit)) ≡ bondtrace (head ++ input)) ⌝ }
+{
     if left != 0 {
-        print_bad(schedule::BAD_RECORD, playback.place);
-        return;
+        return printing::bad_line(schedule::BAD_RECORD, playback.place, out);
     }
-    print_end(playback, store);
+    let table = playback.table;
+    printing::final_text(table, store, playback.records, playback.refused, out)
+}
+
+// Prints that text.
+fn print_end(playback: Playback, store: &[u32], left: usize)
+    requires { ⌜ Steady playback ⌝ }
+    requires { ⌜ Over playback (now store) left ⌝ }
+{
+    let mut out = io::buffer();
+    let n = end_text(playback, store, left, &mut out);
+    io::write_all(STDOUT_FILENO, &out[..n]);
+}
+
+// Prints that the table record is refused.
+fn print_refused(number: u8) {
+    let mut out = io::buffer();
+    let n = printing::bad_line(number, 0, &mut out);
+    io::write_all(STDOUT_FILENO, &out[..n]);
 }
 
 // Plays what stands in the buffer behind the table record, and the rest of the input.
 fn play_on(input: i32, opened: Playback, buffer: &mut [u8], filled: usize)
     requires { ⌜ Steady opened ⌝ }
-    requires { ⌜ opened .place ≡ 4 ⌝ }
+    requires { ⌜ Starts opened ⌝ }
     requires { ⌜ length (now buffer) ≡ 65536 ⌝ }
     requires { ⌜ (4 ≤ filled) × (filled ≤ 65536) ⌝ }
 {
     let mut words = [0u32; 256];
     let size = 8 * (opened.table.n as usize);
     let mut playback = opened;
-    let mut start: usize = 4;
+    let mut start = schedule::HEAD_BYTES;
     let mut end = filled;
     let mut refills = MOST_REFILLS;
     while 0 < refills {
@@ -53,16 +64,16 @@ fn play_on(input: i32, opened: Playback, buffer: &mut [u8], filled: usize)
         let before = playback.place;
         let played = trace::play(playback, &mut words[..size], &buffer[start..end]);
         playback = played.playback;
-        if played.bad {
-            print_bad(schedule::BAD_RECORD, playback.place);
-            return;
-        }
         let next = start + (playback.place - before) as usize;
         let left = end - next;
+        if played.bad {
+            print_end(playback, &words[..size], left);
+            return;
+        }
         end = refill::refill(input, buffer, next, end);
         start = 0;
         if end == left {
-            finish(playback, &words[..size], left);
+            print_end(playback, &words[..size], left);
             return;
         }
     }
@@ -75,7 +86,7 @@ pub fn run(input: i32) {
     let filled = io::read_full(input, buffer);
     let opened = trace::open(&buffer[..filled]);
     if opened.number != 0 {
-        print_bad(opened.number, 0);
+        print_refused(opened.number);
         return;
     }
     let playback = opened.playback;

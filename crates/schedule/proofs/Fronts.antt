@@ -6,12 +6,15 @@ use mathlib.Core.List.{List, [], _∷_}
 use Prim.Native.Nat.{ℕ, zero, suc, _+_, _*_, _≤_, _<_}
 use native.Mathlib.Omega.{arith}
 use lib.ListN.{length}
-use lib.Seq.{getD-take, length-take-le, take-all}
+use lib.Seq.{length-take-le, take-all}
 use lib.Dec.{eqb, leb, ltb}
 use borrow.Author.Tests.{ltb-true, eqb-true, eq-eqb, ne-eqb, le-leb, lt-leb, leb-true, leb-false}
 use Rattle.model.specs.Lists.{implies, allOf, allBelow, upTo}
-use Rattle.model.specs.Schedule.{tableKind, beginKind, tickKind, recordLength, byte, kindByte, threadByte, countByte, wordAt, lawfulBegin, lawful, operationOf, front}
-use Rattle.model.proofs.Laws.{by, and-left, and-right}
+use Rattle.model.specs.Schedule.{tableKind, beginKind, tickKind, recordLength, byte, kindByte, countByte, wordAt, lawfulBegin, lawful, operationOf, front}
+use Rattle.model.proofs.Laws.{by, and-left}
+-- those who cite the laws below find these beside them
+pub use Rattle.laws.proofs.Schedule.{record-head, record-begin, front-kind, front-thread, lawful-long, lawful-head-long}
+use Rattle.laws.proofs.Schedule.{record-other, front-byte, head-byte}
 use Rattle.schedule.specs.Heads.{lawfulHead}
 use Rattle.schedule.proofs.Begins.{wordLawful}
 
@@ -52,42 +55,10 @@ module _ (p q : List ℕ) (h : Alike p q) where
   unfolding lawfulBegin
   begin-alike = simp (byte-alike, all-below-alike 8 (wordLawful p (countByte q)) (wordLawful q (countByte q)) (λ i l. rw (word-alike i l) refl))
 
--- a record has at least four bytes
-pub record-head : (kind : ℕ) → 4 ≤ recordLength kind
-unfolding recordLength
-record-head kind = by (eqb kind beginKind) (λ e. rw e (omega arith)) (λ e. rw e (omega arith))
-
--- a begin has 42
-pub record-begin : (kind : ℕ) → kind ≡ beginKind → recordLength kind ≡ 42
-unfolding recordLength
-record-begin kind e = rw e refl
-
--- any other four
-pub record-other : (kind : ℕ) → kind ≢ beginKind → recordLength kind ≡ 4
-unfolding recordLength
-record-other kind d = rw (ne-eqb kind beginKind d) refl
-
 module _ (bytes : List ℕ) where
-  -- a byte of the record is that of the bytes
-  front-byte : (i : ℕ) → i < recordLength (kindByte bytes) → byte (front bytes) i ≡ byte bytes i
-  unfolding front
-  front-byte i l = getD-take (recordLength (kindByte bytes)) bytes i 0 l
-
-  -- so are the four of its head
-  head-byte : (i : ℕ) → i < 4 → byte (front bytes) i ≡ byte bytes i
-  head-byte i l = front-byte i (omega (arith, record-head (kindByte bytes)))
-
-  -- its kind
-  pub front-kind : kindByte (front bytes) ≡ kindByte bytes
-  front-kind = head-byte 2 (omega arith)
-
-  -- its thread
-  pub front-thread : threadByte (front bytes) ≡ threadByte bytes
-  front-thread = head-byte 3 (omega arith)
-
-  -- all bytes of a begin
+  -- all bytes of a begin are those of the bytes
   begin-front : kindByte bytes ≡ beginKind → Alike (front bytes) bytes
-  begin-front e i l = front-byte i (omega (arith, record-begin (kindByte bytes) e))
+  begin-front e i l = front-byte bytes i (omega (arith, record-begin (kindByte bytes) e))
 
   -- and its operation
   pub front-operation : kindByte bytes ≡ beginKind → operationOf (front bytes) ≡ operationOf bytes
@@ -154,17 +125,9 @@ module _ (bytes : List ℕ) where
       lawful-whole long e = lawful-front ∙ rw (head, record-begin (kindByte bytes) e, le-leb 42 (length bytes) long, eq-eqb (kindByte bytes) beginKind e) refl
 
     module _ (e : lawful first (front bytes) ≡ true) where
-      -- a lawful one is whole
-      pub lawful-long : recordLength (kindByte bytes) ≤ length bytes
-      lawful-long = leb-true _ _ (and-left _ (implies (eqb (kindByte bytes) beginKind) (lawfulBegin bytes)) (and-right (lawfulHead first bytes) _ (sym lawful-front ∙ e)))
-
-      -- so it has its head
-      pub lawful-head-long : 4 ≤ length bytes
-      lawful-head-long = omega (arith, lawful-long, record-head (kindByte bytes))
-
-      -- and, as a begin, all 42 bytes
+      -- a lawful begin has all 42 bytes
       pub lawful-begin-long : kindByte bytes ≡ beginKind → 42 ≤ length bytes
-      lawful-begin-long b = omega (arith, lawful-long, record-begin (kindByte bytes) b)
+      lawful-begin-long b = omega (arith, lawful-long bytes first e, record-begin (kindByte bytes) b)
 
       -- its head is lawful
       head-of-lawful : lawfulHead first bytes ≡ true

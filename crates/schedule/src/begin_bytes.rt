@@ -6,6 +6,13 @@ ghost use lib.ListN.{length};
 ghost use lib.Dec.{eqb, ltb};
 ghost use Rattle.model.specs.Lists.{allBelow, upTo};
 ghost use Rattle.model.specs.Schedule.{wordAt, sendBit, receiveBit, openBit, lawfulBegin, receiveOf};
+use crate::COUNT;
+use crate::FIRST_WORD;
+use crate::PARTNER;
+use crate::PARTS;
+use crate::RECEIVE_TIME;
+use crate::SEND_TIME;
+use crate::TARGET;
 use model::Receive;
 use model::Wait;
 
@@ -46,10 +53,11 @@ fn word_at(bytes: &[u8], i: usize) -> u32
     requires { ⌜ i < 8 ⌝ }
     ensures { λ r. ⌜ r ≡ wordAt (now (bytes .entry)) i ⌝ }
 {
-    wide(bytes[10 + 4 * i])
-        + 256 * wide(bytes[11 + 4 * i])
-        + 65536 * wide(bytes[12 + 4 * i])
-        + 16777216 * wide(bytes[13 + 4 * i])
+    let start = FIRST_WORD + 4 * i;
+    wide(bytes[start])
+        + 256 * wide(bytes[start + 1])
+        + 65536 * wide(bytes[start + 2])
+        + 16777216 * wide(bytes[start + 3])
 }
 
 // The words past the count are 0.
@@ -72,16 +80,16 @@ pub fn lawful_begin(bytes: &[u8]) -> bool
     requires { ⌜ 42 ≤ length (now bytes) ⌝ }
     ensures { λ r. ⌜ r ≡ lawfulBegin (now (bytes .entry)) ⌝ }
 {
-    let parts = bytes[4];
+    let parts = bytes[PARTS];
     let sends = send_bit(parts);
     let receives = receive_bit(parts);
     let open = open_bit(parts);
     (parts <= ALL_PARTS)
         & (!open | receives)
-        & (sends | ((bytes[5] == 0) & (bytes[7] == 0) & (bytes[8] == 0)))
-        & (receives | (bytes[9] == 0))
-        & ((receives & !open) | (bytes[6] == 0))
-        & no_word_past(bytes, bytes[7])
+        & (sends | ((bytes[TARGET] == 0) & (bytes[COUNT] == 0) & (bytes[SEND_TIME] == 0)))
+        & (receives | (bytes[RECEIVE_TIME] == 0))
+        & ((receives & !open) | (bytes[PARTNER] == 0))
+        & no_word_past(bytes, bytes[COUNT])
 }
 
 // The eight words of a begin.
@@ -103,13 +111,13 @@ pub fn receive_at(bytes: &[u8]) -> Receive
     requires { ⌜ 42 ≤ length (now bytes) ⌝ }
     ensures { λ r. ⌜ r ≡ receiveOf (now (bytes .entry)) ⌝ }
 {
-    let parts = bytes[4];
+    let parts = bytes[PARTS];
     if !receive_bit(parts) {
         return Receive::Absent;
     }
     let wait = Wait {
-        time: bytes[9],
-        partner: bytes[6],
+        time: bytes[RECEIVE_TIME],
+        partner: bytes[PARTNER],
     };
     if open_bit(parts) {
         return Receive::Open(wait);

@@ -14,27 +14,59 @@ use model::Receive;
 use model::Record;
 use model::SendPart;
 
-// The kinds of records by their numbers.
+// The kind of the record that makes a table, the first of a schedule.
 pub const TABLE: u8 = 0;
 
+// The kind of a begin.
 pub const BEGIN: u8 = 1;
 
+// The kind of a step.
 pub const STEP: u8 = 2;
 
+// The kind of a cancel.
 pub const CANCEL: u8 = 3;
 
+// The kind of a tick, the last kind there is.
 pub const TICK: u8 = 4;
 
-// How many bytes a begin has.
-const BEGIN_BYTES: usize = 42;
+// How many bytes a begin has, the longest record.
+pub const BEGIN_BYTES: usize = 42;
 
 // How many bytes any other record has, and every record starts with.
-const HEAD_BYTES: usize = 4;
+pub const HEAD_BYTES: usize = 4;
 
-// The two bytes that every record starts with.
+// The first byte of every record.
 pub const FIRST_MARK: u8 = 0x4C;
 
+// The second byte of every record.
 pub const SECOND_MARK: u8 = 0x34;
+
+// The place of the kind in a record's bytes.
+pub const KIND: usize = 2;
+
+// The place of the thread.
+pub const THREAD: usize = 3;
+
+// The place of a begin's parts byte.
+pub const PARTS: usize = 4;
+
+// The place of the thread a begin sends to.
+pub const TARGET: usize = 5;
+
+// The place of the thread a begin receives from.
+pub const PARTNER: usize = 6;
+
+// The place of the number of words a begin sends.
+pub const COUNT: usize = 7;
+
+// The place of a begin's time code for sending.
+pub const SEND_TIME: usize = 8;
+
+// The place of a begin's time code for receiving.
+pub const RECEIVE_TIME: usize = 9;
+
+// The place of the first of a begin's eight words.
+pub const FIRST_WORD: usize = 10;
 
 // The refusal of a record that is unlawful, cut short, or longer than the bytes it is to be written to.
 pub const BAD_RECORD: u8 = 12;
@@ -54,12 +86,12 @@ fn lawful_head(first: bool, bytes: &[u8]) -> bool
     requires { ⌜ 4 ≤ length (now bytes) ⌝ }
     ensures { λ r. ⌜ r ≡ lawfulHead first (now (bytes .entry)) ⌝ }
 {
-    let kind = bytes[2];
+    let kind = bytes[KIND];
     (bytes[0] == FIRST_MARK)
         & (bytes[1] == SECOND_MARK)
         & (kind <= TICK)
         & (first == (kind == TABLE))
-        & (!(kind == TICK) | (bytes[3] == 0))
+        & (!(kind == TICK) | (bytes[THREAD] == 0))
 }
 
 // The bytes start with a lawful record, which is the first of its schedule or a later one.
@@ -72,7 +104,7 @@ pub fn is_lawful(first: bool, bytes: &[u8]) -> bool
     if !lawful_head(first, bytes) {
         return false;
     }
-    if bytes[2] != BEGIN {
+    if bytes[KIND] != BEGIN {
         return true;
     }
     if bytes.len() < BEGIN_BYTES {
@@ -88,10 +120,10 @@ pub fn operation_at(bytes: &[u8]) -> Operation
 {
     let words = begin_bytes::words_at(bytes);
     let send = SendPart {
-        present: begin_bytes::send_bit(bytes[4]),
-        target: bytes[5],
-        count: bytes[7],
-        time: bytes[8],
+        present: begin_bytes::send_bit(bytes[PARTS]),
+        target: bytes[TARGET],
+        count: bytes[COUNT],
+        time: bytes[SEND_TIME],
         words: words,
     };
     let receive = begin_bytes::receive_at(bytes);
@@ -134,8 +166,8 @@ pub fn read(first: bool, bytes: &[u8]) -> Decoded
             item: nothing,
         };
     }
-    let kind = bytes[2];
-    let thread = bytes[3];
+    let kind = bytes[KIND];
+    let thread = bytes[THREAD];
     if kind != BEGIN {
         let item = bare_record(kind, thread);
         return Decoded {

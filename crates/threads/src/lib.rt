@@ -1,5 +1,6 @@
 // Functions on one thread: each returns what a definition of the model says.
 ghost use mathlib.Core.Path.{_≡_};
+ghost use mathlib.Core.Bool.{cond};
 ghost use Rattle.model.specs.Shared.{isFailure, codeOnly, tickCount, fall, hasReceive, receiveTime, accepts, closedOn};
 ghost use Rattle.model.specs.Threads.{noFlags, ended, marked, withoutReceive, ready};
 ghost use Rattle.model.specs.Calls.{ticked};
@@ -226,6 +227,16 @@ pub fn set_mark(h: Thread) -> Thread
     let mut next = h;
     next.flags.mark = true;
     next
+}
+
+// A cancel of one thread: the mark set if an operation runs.
+pub fn mark_running(h: Thread) -> Thread
+    ensures { λ r. ⌜ r ≡ cond (h .flags .ipc) (marked h) h ⌝ }
+{
+    if h.flags.ipc {
+        return set_mark(h);
+    }
+    h
 }
 
 // A tick of one thread.

@@ -1,13 +1,14 @@
 -- The table record: whether it is refused, how large a table it makes, and that a trace behind it can go on.
-use mathlib.Core.Path.{_≡_, refl, sym, _∙_}
+use mathlib.Core.Path.{_≡_, refl, sym, ap}
 use mathlib.Core.Logic.{_≢_}
 use mathlib.Core.Bool.{true, false}
 use mathlib.Core.List.{List}
-use Prim.Native.Nat.{ℕ, suc, zero}
+use Prim.Native.Nat.{ℕ, suc, zero, _*_}
 use native.Mathlib.Omega.{arith}
 use Rattle.model.specs.Refusals.{unless, makeRefusal}
 use Rattle.model.specs.Schedule.{threadByte, front, lawful}
 use Rattle.laws.proofs.Lists.{cond-true, cond-false}
+use Rattle.invariant.proofs.New.{new-size}
 use Rattle.core.proofs.Kept.{new-checked}
 use Rattle.trace.specs.Playback.{openRefusal, openSize, opened, Steady}
 
@@ -37,3 +38,8 @@ module _ (input : List ℕ) where
 pub opened-steady : (n : ℕ) → makeRefusal n ≡ 0 → Steady (opened n)
 unfolding opened
 opened-steady n made = record { checked = new-checked n made; fewer = omega arith; counted = omega arith }
+
+-- it has eight words for each of its threads
+pub opened-words : (n : ℕ) → 8 * opened n .table .n ≡ 8 * n
+unfolding opened
+opened-words n = ap (λ (k : ℕ). 8 * k) (new-size n)

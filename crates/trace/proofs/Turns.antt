@@ -15,11 +15,12 @@ use Rattle.model.specs.Refusals.{refusal, unless}
 use Rattle.model.specs.Promise.{state, next, Promise}
 use Rattle.model.specs.Schedule.{kindByte, recordLength, front, lawful, recordOf}
 use Rattle.model.specs.Bondtrace.{callOf, Tally, recordPlayed}
+use Rattle.model.proofs.Numbers.{size-read}
+use Rattle.model.proofs.Tested.{well-formed-told}
 use Rattle.laws.proofs.Calls.{refused-next}
-use Rattle.schedule.proofs.Fronts.{record-head, lawful-long, lawful-head-long}
+use Rattle.laws.proofs.Schedule.{record-head, lawful-long, lawful-head-long}
 use Rattle.pieces.specs.Playing.{Progress, playedOn, wholeRecord}
-use Rattle.pieces.specs.Pieces.{PlayedTo}
-use Rattle.pieces.proofs.Playing.{played-to-none, played-to-more, played-to-end}
+use Rattle.pieces.proofs.Playing.{PlayedTo, played-to-none, played-to-more, played-to-end}
 use Rattle.core.specs.Runnable.{Runnable}
 use Rattle.core.proofs.Kept.{keeps-runnable, keeps-size}
 use Rattle.trace.specs.declared.Playback.{Playback}
@@ -102,6 +103,10 @@ goes-first from store bytes ready = record {
 }
 
 module _ {from : Playback} {store₀ bytes : List ℕ} {n : ℕ} {store : List ℕ} {now : Table} {records refused at : ℕ} (G : Goes from store₀ bytes n store now records refused at) where
+  -- there are at most 32 threads
+  pub few-threads : n ≤ 32
+  few-threads = omega (arith, G .size, size-read (now .n) (well-formed-told now (G .runnable .checked .formed) .size) .1)
+
   -- ---- a turn, with a lawful record at the front
   module _ (good : lawful false (front (from-place bytes at)) ≡ true) where
     -- the bytes of the turn

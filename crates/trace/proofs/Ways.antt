@@ -1,25 +1,30 @@
 -- The ways through a turn of a trace, by the record's kind and the code's tests: which calls may run, and what is played.
-use mathlib.Core.Path.{_≡_, sym, ap, _∙_}
+use mathlib.Core.Path.{_≡_, sym, ap, _∙_, subst}
 use mathlib.Core.Logic.{_≢_}
-use mathlib.Core.Bool.{true, false, not}
+use mathlib.Core.Bool.{true, false, not, cond}
 use mathlib.Core.List.{List, [], _∷_}
 use Prim.Native.Nat.{ℕ, suc, _+_, _≤_, _<_}
 use native.Mathlib.Omega.{arith}
 use lib.ListN.{length}
 use borrow.Author.Tests.{le-leb, lt-leb, eq-eqb, ne-eqb}
 use Rattle.model.specs.declared.Operation.{Operation}
+use Rattle.model.specs.declared.Thread.{Thread}
 use Rattle.model.specs.declared.Table.{Table}
 use Rattle.model.specs.declared.Answer.{Answer}
+use Rattle.model.specs.declared.Answer.the-variants.{Marked, NothingToCancel}
 use Rattle.model.specs.Shared.{nobody}
-use Rattle.model.specs.Threads.{at, lockFree}
+use Rattle.model.specs.Threads.{at, put, marked, lockFree}
 use Rattle.model.specs.WellFormed.{Shaped, wellFormed}
 use Rattle.model.specs.Calls.{Call, begin, step, cancel, tick, State}
 use Rattle.model.specs.Refusals.{firstRefusal, noThread, lockOwned, badLength, placeRows, beginRows, laterRows, refusal}
 use Rattle.model.specs.Promise.{state, Promise}
 use Rattle.model.specs.Schedule.{beginKind, stepKind, cancelKind, tickKind, kindByte, threadByte, operationOf, recordLength, front, lawful}
-use Rattle.model.proofs.Laws.{same?}
+use Rattle.model.proofs.Laws.{by, same?}
+use Rattle.laws.proofs.Lists.{cond-true, cond-false}
+use Rattle.laws.proofs.Tables.{put-own}
 use Rattle.laws.proofs.Rows.{first-here, first-later}
 use Rattle.laws.proofs.Groups.{later-refusal}
+use Rattle.core.proofs.Performed.{cancel-running, cancel-over}
 use Rattle.core.proofs.Kept.{tick-accepted, cancel-accepted, step-accepted, begin-number}
 use Rattle.trace.specs.declared.Playback.{Playback}
 use Rattle.trace.proofs.Records.{calls-tick, calls-step, calls-cancel, calls-begin, must-begin}
@@ -81,7 +86,7 @@ module _ {from : Playback} {store₀ bytes : List ℕ} {n : ℕ} {store : List �
     step-runs = step-accepted (state now store) formed x in-table (G .runnable .words)
 
     -- a cancel of it may run if its lock is free, whatever the store
-    pub cancel-runs : (words : List ℕ) → at now x .owner ≡ nobody → refusal (cancel x) (state now words) ≡ 0
+    cancel-runs : (words : List ℕ) → at now x .owner ≡ nobody → refusal (cancel x) (state now words) ≡ 0
     unfolding lockFree
     cancel-runs words free = cancel-accepted (state now words) formed x in-table (eq-eqb (at now x .owner) nobody free)
 
@@ -113,10 +118,16 @@ module _ {from : Playback} {store₀ bytes : List ℕ} {n : ℕ} {store : List �
       pub way-owned : kindByte rest ≡ cancelKind → at now x .owner ≢ nobody → Goes from store₀ bytes n store now (records + 1) (refused + 1) to
       way-owned kind owned = turn-refused G good to passes (cancel x) (calls-cancel rest kind) (cancel-owned (state now store) formed x (in-table below) owned)
 
-      -- a cancel
-      pub way-cancel : kindByte rest ≡ cancelKind → at now x .owner ≡ nobody → (a : Answer) (after : Table)
-          → ((words : List ℕ) → Promise (cancel x) (state now words) a (state after words)) → Goes from store₀ bytes n store after (records + 1) refused to
-      way-cancel kind free a after kept = turn-accepted G good to passes (cancel x) (calls-cancel rest kind) (cancel-runs below store free) a after store (kept store)
+      -- a cancel: h is the thread afterwards
+      pub way-cancel : kindByte rest ≡ cancelKind → at now x .owner ≡ nobody → (h : Thread) → h ≡ cond (at now x .flags .ipc) (marked (at now x)) (at now x) → Goes from store₀ bytes n store (put x h now) (records + 1) refused to
+      way-cancel kind free h is = by (at now x .flags .ipc)
+          (λ runs. cancelled Marked (put x h now) (cancel-running x now (cancel-runs below [] free) runs h (is ∙ cond-true _ _ _ runs) store))
+          (λ over. let same : put x h now ≡ now = ap (λ (k : Thread). put x k now) (is ∙ cond-false _ _ _ over) ∙ put-own x now in
+          cancelled NothingToCancel (put x h now) (subst (λ (t : Table). Promise (cancel x) (state now store) NothingToCancel (state t store)) (sym same) (cancel-over x now (cancel-runs below [] free) over store)))
+        where
+          -- a cancel that keeps its promise
+          cancelled : (a : Answer) (after : Table) → Promise (cancel x) (state now store) a (state after store) → Goes from store₀ bytes n store after (records + 1) refused to
+          cancelled a after kept = turn-accepted G good to passes (cancel x) (calls-cancel rest kind) (cancel-runs below store free) a after store kept
 
       -- a begin
       module _ (ticks : kindByte rest ≢ tickKind) (steps : kindByte rest ≢ stepKind) (cancels : kindByte rest ≢ cancelKind) (o : Operation) (reads : o ≡ operationOf rest) (g : ℕ)

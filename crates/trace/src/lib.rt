@@ -50,7 +50,7 @@ pub fn open(bytes: &[u8]) -> Opened
             playback: fresh(0),
         };
     }
-    let n = bytes[3];
+    let n = bytes[schedule::THREAD];
     let number = refusals::size_refusal(n);
     if number != 0 {
         return Opened {
@@ -68,10 +68,10 @@ pub fn open(bytes: &[u8]) -> Opened
 fn is_whole(bytes: &[u8]) -> bool
     ensures { λ r. ⌜ r ≡ wholeRecord (now (bytes .entry)) ⌝ }
 {
-    if bytes.len() < 4 {
+    if bytes.len() < schedule::HEAD_BYTES {
         return false;
     }
-    schedule::record_length(bytes[2]) <= bytes.len()
+    schedule::record_length(bytes[schedule::KIND]) <= bytes.len()
 }
 
 // Plays the lawful records at the front of the bytes, one after the other.
@@ -82,18 +82,23 @@ pub fn play(from: Playback, store: &mut [u32], bytes: &[u8]) -> Played
 {
     let mut now = from.table;
     let n = now.n;
+    let size = n as usize;
     let mut records = from.records;
     let mut refused = from.refused;
     let mut at: usize = 0;
     while schedule::is_lawful(false, &bytes[at..]) {
         let record = &bytes[at..];
-        let kind = record[2];
-        let x = record[3];
+        let kind = record[schedule::KIND];
+        let x = record[schedule::THREAD];
         at += schedule::record_length(kind);
         records += 1;
         if kind == schedule::TICK {
-            let ticked = core::tick(now);
-            now = ticked.table;
+            let mut k: usize = 0;
+            while k < size {
+                let h = now.threads[k];
+                now.threads[k] = threads::tick_thread(h);
+                k += 1;
+            }
             continue;
         }
         if n <= x {
@@ -133,8 +138,7 @@ pub fn play(from: Playback, store: &mut [u32], bytes: &[u8]) -> Played
                 refused += 1;
                 continue;
             }
-            let cancelled = core::cancel(now, x);
-            now = cancelled.table;
+            now.threads[i] = threads::mark_running(own);
             continue;
         }
         let op = schedule::operation_at(record);

@@ -12,8 +12,19 @@ use model::Receive;
 use model::Record;
 use schedule::BAD_RECORD;
 use schedule::BEGIN;
+use schedule::BEGIN_BYTES;
+use schedule::COUNT;
 use schedule::FIRST_MARK;
+use schedule::FIRST_WORD;
+use schedule::HEAD_BYTES;
+use schedule::KIND;
+use schedule::PARTNER;
+use schedule::PARTS;
+use schedule::RECEIVE_TIME;
 use schedule::SECOND_MARK;
+use schedule::SEND_TIME;
+use schedule::TARGET;
+use schedule::THREAD;
 
 // 1 for true, 0 for false.
 fn bit_of(b: bool) -> u8
@@ -74,30 +85,30 @@ fn put_words(bytes: &mut [u8], words: [u32; 8])
 {
     let mut i: usize = 0;
     while i < 8 {
-        put_word(bytes, 10 + 4 * i, words[i]);
+        put_word(bytes, FIRST_WORD + 4 * i, words[i]);
         i += 1;
     }
 }
 
 // A record as if it were a begin: its head, and the bytes of its operation.
-fn spell(item: Record) -> [u8; 42]
+fn spell(item: Record) -> [u8; BEGIN_BYTES]
     ensures { λ r. ⌜ r ≡ spelled item ⌝ }
 {
     let op = item.op;
     let send = op.send;
     let receive = op.receive;
     let words = send.words;
-    let mut bytes = [0u8; 42];
+    let mut bytes = [0u8; BEGIN_BYTES];
     bytes[0] = FIRST_MARK;
     bytes[1] = SECOND_MARK;
-    bytes[2] = item.kind;
-    bytes[3] = item.thread;
-    bytes[4] = parts_of(op);
-    bytes[5] = send.target;
-    bytes[6] = partner_of(receive);
-    bytes[7] = send.count;
-    bytes[8] = send.time;
-    bytes[9] = threads::receive_time(receive);
+    bytes[KIND] = item.kind;
+    bytes[THREAD] = item.thread;
+    bytes[PARTS] = parts_of(op);
+    bytes[TARGET] = send.target;
+    bytes[PARTNER] = partner_of(receive);
+    bytes[COUNT] = send.count;
+    bytes[SEND_TIME] = send.time;
+    bytes[RECEIVE_TIME] = threads::receive_time(receive);
     put_words(&mut bytes, words);
     bytes
 }
@@ -124,7 +135,7 @@ fn is_bare(kind: u8, bytes: &[u8]) -> bool
     if kind == BEGIN {
         return true;
     }
-    all_zero(&bytes[4..])
+    all_zero(&bytes[HEAD_BYTES..])
 }
 
 // Bytes over the first of others.

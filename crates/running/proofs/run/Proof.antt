@@ -1,8 +1,7 @@
-use Rattle.trace.specs.Playback.{opened}
-use Rattle.trace.specs.declared.Playback.{Playback}
+use mathlib.Core.Path.{sym, _∙_}
 use native.Mathlib.Omega.{arith}
-use mathlib.Core.Path.{ap}
 use borrow.Author.Needs.{needs}
+use Rattle.running.proofs.Filling.{opening-starts}
 use Rattle.running.proofs.run.Statement.{statement}
 use Rattle.running.proofs.run.Tie as tie
 
@@ -24,18 +23,18 @@ slice-aggregate-open c = search needs
 open-requires : tie.Need-open-requires
 open-requires c κs = search needs
 
-print-bad-requires : tie.Need-print-bad-requires
-print-bad-requires c κs = search needs
+print-refused-requires : tie.Need-print-refused-requires
+print-refused-requires c κs = search needs
 
 returns : tie.Need-returns
 returns c = search needs
 
 play-on-requires : tie.Need-play-on-requires
-unfolding opened
 play-on-requires c κs =
-    let open-tells = c .before .before .before .«open» .ensures in
-    let test1 = c .before .if1 .left in
-    (open-tells .1 .1 test1 .1, (ap (λ (t : Playback). t .place) (open-tells .1 .0), (search needs, (omega (arith, open-tells .1 .1 test1 .0, c .before .before .before .before .before .before .before .read-full .ensures .1), search needs))))
+    let accepted = c .before .if1 .left in
+    let opening = c .before .before .before .«open» .ensures in
+    let read = c .before .before .before .before .before .before .before .read-full .ensures in
+    (opening .1 .1 accepted .1, (opening-starts _ _ (sym (opening .0) ∙ accepted) (opening .1 .0), (search needs, (omega (arith, opening .1 .1 accepted .0, read .1), search needs))))
 
 returns-2 : tie.Need-returns-2
 returns-2 c = search needs
@@ -50,7 +49,7 @@ run-spec =
     slice-reshare-prefix-open
     slice-aggregate-open
     open-requires
-    print-bad-requires
+    print-refused-requires
     returns
     play-on-requires
     returns-2)

@@ -1,62 +1,51 @@
-use Rattle.trace.proofs.Opening.{opened-steady, not-opened, opened-size, refused-size, opens}
-use Rattle.trace.specs.Playback.{opened, Steady}
 use Rattle.schedule.proofs.Fronts.{lawful-head-long}
-use Rattle.model.specs.Schedule.{front, lawful, threadByte}
+use Rattle.model.specs.Schedule.{front, lawful}
 use borrow.Author.Tests.{not-true, not-false}
 use native.Mathlib.Omega.{arith}
-use Prim.Native.Nat.{ℕ}
 use mathlib.Core.Bool.{true, false}
-use mathlib.Core.Path.{_≡_, refl, sym, ap, _∙_, subst}
+use mathlib.Core.Path.{_≡_, sym, ap, _∙_, subst}
 use borrow.Author.Needs.{needs}
+use Rattle.trace.proofs.Opening.{opened-steady, not-opened, opened-size, refused-size, opens}
+use Rattle.trace.specs.Playback.{opened, Steady}
 use Rattle.trace.proofs.open.Statement.{statement}
 use Rattle.trace.proofs.open.Tie as tie
-use Rattle.trace.proofs.open.Reads as reads
-use Rattle.trace.proofs.open.Lts as lts
-use Rattle.refusals.proofs.size_refusal.Reads as size-refusal-reads
-use Rattle.schedule.proofs.is_lawful.Reads as is-lawful-reads
-use Rattle.trace.proofs.fresh.Reads as fresh-reads
 
--- src/lib.rt:47:9
 is-lawful-requires : tie.Need-is-lawful-requires
 is-lawful-requires c κs = search needs
 
--- src/lib.rt:50:23
 fresh-requires : tie.Need-fresh-requires
 fresh-requires c κs = search needs
 
--- src/lib.rt:48:9
 returns : tie.Need-returns
 returns c = let bad : lawful true (front (c .before .before .before .before .args .bytes .now)) ≡ false = sym (c .before .before .is-lawful .ensures) ∙ not-true (c .before .before .is-lawful .result) (c .before .if1 .taken) in
     (sym (not-opened _ bad), (c .fresh .ensures ∙ ap opened (sym (refused-size _ 12 (sym (not-opened _ bad)) (λ e. omega arith))), λ e. absurd (omega arith)))
 
--- src/lib.rt:53:13
 shared-slice-read-n : tie.Need-shared-slice-read-n
 shared-slice-read-n c = omega (arith, lawful-head-long (c .before .before .before .before .args .bytes .now) true (sym (c .before .before .is-lawful .ensures) ∙ not-false (c .before .before .is-lawful .result) (c .before .if1 .left)))
 
--- src/lib.rt:54:9
 size-refusal-requires : tie.Need-size-refusal-requires
 size-refusal-requires c κs = search needs
 
--- src/lib.rt:58:23
 fresh-requires-2 : tie.Need-fresh-requires-2
 fresh-requires-2 c κs = search needs
 
--- src/lib.rt:56:9
 returns-2 : tie.Need-returns-2
 returns-2 c = let good : lawful true (front (c .before .before .before .before .before .before .before .args .bytes .now)) ≡ true = sym (c .before .before .before .before .before .is-lawful .ensures) ∙ not-false (c .before .before .before .before .before .is-lawful .result) (c .before .before .before .before .if1 .left) in
     let number = c .before .before .size-refusal .ensures ∙ sym (opens _ good) in
     (number, (c .fresh2 .ensures ∙ ap opened (sym (refused-size _ _ number (c .before .if2 .taken))), λ e. absurd (c .before .if2 .taken e)))
 
--- src/lib.rt:63:19
 fresh-requires-3 : tie.Need-fresh-requires-3
 fresh-requires-3 c κs = search needs
 
--- src/lib.rt:42:1
 returns-3 : tie.Need-returns-3
 returns-3 c = let good : lawful true (front (c .before .before .before .before .before .before .before .args .bytes .now)) ≡ true = sym (c .before .before .before .before .before .is-lawful .ensures) ∙ not-false (c .before .before .before .before .before .is-lawful .result) (c .before .before .before .before .if1 .left) in
-    let number = c .before .before .size-refusal .ensures ∙ sym (opens _ good) in
-    (number, (c .fresh3 .ensures ∙ ap opened (sym (opened-size _ (sym number ∙ c .before .if2 .left))),
-    λ made. (lawful-head-long (c .before .before .before .before .before .before .before .args .bytes .now) true good, subst Steady (sym (c .fresh3 .ensures)) (opened-steady _ (sym (c .before .before .size-refusal .ensures) ∙ made)))))
+    let number = c .before .before .size-refusal .ensures ∙ sym (opens _ good) in (
+      number,
+      (
+        c .fresh3 .ensures ∙ ap opened (sym (opened-size _ (sym number ∙ c .before .if2 .left))),
+        λ made. (lawful-head-long (c .before .before .before .before .before .before .before .args .bytes .now) true good, subst Steady (sym (c .fresh3 .ensures)) (opened-steady _ (sym (c .before .before .size-refusal .ensures) ∙ made))),
+      ),
+    )
 
 pub open-spec : {M : Type 1} → statement M
 open-spec =
