@@ -4,8 +4,9 @@
 # and base_checked (a full check before every call): each load goes to the three alternately, RUNS times each after one run that
 # is not timed and whose output must be the expected one. Printed per load: median times (cpu = user + system, wall), records per
 # second, and the median over the rounds of the ratio PROGRAM/base of the same round, with the lowest and highest round.
-# The ratio of cpu times is the figure to go by. Environment: RUNS (5), LOADS ("n2 n8 n32 n32hot"). Exit 1 if an output is wrong.
-# A load has 200,000 records of clients that call servers: n2, n8 and n32 by the number of threads, n32hot with one server.
+# The ratio of cpu times is the figure to go by. Environment: RUNS (5), LOADS ("n2 n8 n32 n32hot n8time"). Exit 1 if an output is wrong.
+# A load has 200,000 records: of clients that call servers, n2, n8 and n32 by the number of threads, n32hot with one server; of
+# receives that are waited for, n8time, mostly ticks and cancels.
 set -eu
 here=$(cd "$(dirname "$0")" && pwd)
 [ $# -ge 1 ] || set -- "$here/../target/bin/bondtrace"
@@ -14,7 +15,7 @@ case $prog in /*) ;; *) prog=$PWD/$prog ;; esac
 shift
 
 runs=${RUNS:-5} records=200000
-loads=${LOADS:-n2 n8 n32 n32hot}
+loads=${LOADS:-n2 n8 n32 n32hot n8time}
 work=$(mktemp -d)
 trap 'rm -rf "$work"' EXIT
 dir=$work
