@@ -1,15 +1,14 @@
 -- A table that is checked once needs no check again: every call leaves a checked table, and from one the cheap tests alone show that a call may run.
 use mathlib.Core.Path.{_≡_, sym, ap, _∙_, subst}
 use mathlib.Core.Bool.{true, not}
-use mathlib.Core.List.{List, []}
+use mathlib.Core.List.{[]}
 use Prim.Native.Nat.{ℕ, _*_, _≤_, _<_}
 use lib.ListN.{length}
 use borrow.Author.Tests.{lt-leb}
 use Rattle.model.specs.declared.Operation.{Operation}
-use Rattle.model.specs.declared.Table.{Table}
 use Rattle.model.specs.declared.Answer.{Answer}
 use Rattle.model.specs.Threads.{newTable, at, lockFree}
-use Rattle.model.specs.WellFormed.{Shaped, WellFormed, wellFormed}
+use Rattle.model.specs.WellFormed.{WellFormed, wellFormed}
 use Rattle.model.specs.Calls.{Call, begin, step, cancel, tick, State}
 use Rattle.model.specs.Refusals.{firstRefusal, unless, noThread, lockOwned, placeRows, beginRows, laterRows, refusal, makeRefusal}
 use Rattle.model.specs.Promise.{next, state, Promise, madeTable}

@@ -38,7 +38,6 @@ use Rattle.actions.specs.declared.Ending.{Ending}
 use Rattle.actions.specs.declared.Ending.the-variants.{Nothing, SendCancelled, SendTimeOver, CallFinished, SendFinished, ReceiveCancelled, ReceiveTimeOver}
 use Rattle.actions.specs.Acted.{ownChanged, otherChanged, endingAction, ends, Told, Acted}
 use Rattle.actions.proofs.Endings.{told-fields, told-ending}
-use Rattle.endings.specs.declared.Pair.{Pair}
 use Rattle.endings.specs.Ended.{Ended, Waits, endsSend}
 use Rattle.phases.specs.Fit.{foundAs, Fit, wordAdded, wordsAfter}
 use Rattle.laws.proofs.Decisions.{in-number, copy-word, copy-calls, copy-sends}

@@ -18,7 +18,7 @@ pub struct Pair {
 }
 
 // Check: abort with a code, leave the target's queue, drop the receive part, go to release.
-pub fn abort_send(x: u8, code: i32, own: Thread, other: Thread) -> Pair
+fn abort_send(x: u8, code: i32, own: Thread, other: Thread) -> Pair
     requires { ⌜ Waits x other ⌝ }
     ensures { λ r. ⌜ Ended (abortSend code) x own other r ⌝ }
 {
@@ -47,7 +47,7 @@ fn complete_receive(x: u8, count: u8, other: Thread) -> Thread
 }
 
 // Copy: no word remains, and the receive part of the operation follows.
-pub fn finish_call(x: u8, own: Thread, other: Thread) -> Pair
+fn finish_call(x: u8, own: Thread, other: Thread) -> Pair
     requires { ⌜ Waits x other ⌝ }
     ensures { λ r. ⌜ Ended finishCall x own other r ⌝ }
 {
@@ -67,7 +67,7 @@ pub fn finish_call(x: u8, own: Thread, other: Thread) -> Pair
 }
 
 // Copy: no word remains, and the operation ends.
-pub fn finish_send(x: u8, own: Thread, other: Thread) -> Pair
+fn finish_send(x: u8, own: Thread, other: Thread) -> Pair
     requires { ⌜ Waits x other ⌝ }
     ensures { λ r. ⌜ Ended finishSend x own other r ⌝ }
 {
@@ -83,7 +83,7 @@ pub fn finish_send(x: u8, own: Thread, other: Thread) -> Pair
 }
 
 // Look: end with a code, idle.
-pub fn abort_receive(code: i32, own: Thread, other: Thread) -> Pair
+fn abort_receive(code: i32, own: Thread, other: Thread) -> Pair
     ensures { λ r. ⌜ ((x : ℕ) → Ended (abortReceive code) x own other r) ⌝ }
 {
     let mut mine = threads::end_with_code(own, code);

@@ -1,17 +1,16 @@
 -- What playing promises, piece by piece, comes to what the model prints of the whole input.
-use mathlib.Core.Path.{_≡_, refl, sym, ap, _∙_, subst}
+use mathlib.Core.Path.{_≡_, sym, ap, _∙_, subst}
 use mathlib.Core.Bool.{Bool, true, false, cond}
 use mathlib.Core.List.{List, [], _++_}
-use Prim.Native.Nat.{ℕ, _+_, _-_, _*_, _≤_}
+use Prim.Native.Nat.{ℕ, _+_, _-_, _*_}
 use native.Mathlib.Omega.{arith}
-use lib.ListN.{length, drop, replicate}
+use lib.ListN.{drop, replicate}
 use Rattle.model.specs.Refusals.{makeRefusal}
 use Rattle.model.specs.Schedule.{threadByte, lawful, isEmpty}
-use Rattle.model.specs.Bondtrace.{Tally, started, finalText, badLine, bondtrace}
-use Rattle.laws.proofs.Lists.{cond-true, cond-false}
+use Rattle.model.specs.Bondtrace.{started, finalText, badLine, bondtrace}
 use Rattle.core.proofs.Kept.{new-sized}
 use Rattle.pieces.specs.Playing.{Progress, ahead, playedOn}
-use Rattle.pieces.specs.Pieces.{Piecewise, fresh, nextPiece, KeepsPace, endText}
+use Rattle.pieces.specs.Pieces.{fresh, nextPiece, KeepsPace, endText}
 use Rattle.pieces.proofs.Pieces.{pace-fresh, pace-next, pace-text}
 use Rattle.trace.specs.declared.Playback.{Playback}
 use Rattle.trace.specs.Playback.{tallyOf, opened, PlayPromise}

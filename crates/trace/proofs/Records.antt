@@ -1,20 +1,16 @@
 -- The call that a lawful record makes, by its bytes; it is not the first of its schedule.
-use mathlib.Core.Path.{_≡_, refl, sym, ap, _∙_}
+use mathlib.Core.Path.{_≡_, refl, ap, _∙_}
 use mathlib.Core.Logic.{_≢_}
-use mathlib.Core.Bool.{Bool, true, false, Bool·beq, cond, _&&_}
-use mathlib.Core.List.{List, [], _∷_}
-use Prim.Native.Nat.{ℕ, _≤_}
+use mathlib.Core.Bool.{true, false}
+use mathlib.Core.List.{List}
+use Prim.Native.Nat.{ℕ}
 use native.Mathlib.Omega.{arith}
-use lib.ListN.{length}
-use lib.Dec.{eqb, leb}
-use borrow.Author.Tests.{eqb-true, eq-eqb, leb-true}
+use borrow.Author.Tests.{eq-eqb}
 use Rattle.model.specs.declared.Record.{Record}
 use Rattle.model.specs.declared.Operation.{Operation}
-use Rattle.model.specs.Threads.{noOperation}
-use Rattle.model.specs.Calls.{Call, begin, step, cancel, tick}
-use Rattle.model.specs.Schedule.{tableKind, beginKind, stepKind, cancelKind, tickKind, kindByte, threadByte, operationOf, recordOf, front, lawful}
+use Rattle.model.specs.Calls.{begin, step, cancel, tick}
+use Rattle.model.specs.Schedule.{beginKind, stepKind, cancelKind, tickKind, kindByte, threadByte, operationOf, recordOf, front, lawful}
 use Rattle.model.specs.Bondtrace.{callOf}
-use Rattle.model.proofs.Laws.{and-left, and-right}
 use Rattle.laws.proofs.Lists.{cond-true}
 use Rattle.schedule.proofs.Fronts.{front-kind, front-thread, front-operation, lawful-kind, lawful-later}
 

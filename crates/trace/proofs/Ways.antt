@@ -2,10 +2,9 @@
 use mathlib.Core.Path.{_≡_, sym, ap, _∙_, subst}
 use mathlib.Core.Logic.{_≢_}
 use mathlib.Core.Bool.{true, false, not, cond}
-use mathlib.Core.List.{List, [], _∷_}
+use mathlib.Core.List.{List, []}
 use Prim.Native.Nat.{ℕ, suc, _+_, _≤_, _<_}
 use native.Mathlib.Omega.{arith}
-use lib.ListN.{length}
 use borrow.Author.Tests.{le-leb, lt-leb, eq-eqb, ne-eqb}
 use Rattle.model.specs.declared.Operation.{Operation}
 use Rattle.model.specs.declared.Thread.{Thread}
@@ -14,9 +13,9 @@ use Rattle.model.specs.declared.Answer.{Answer}
 use Rattle.model.specs.declared.Answer.the-variants.{Marked, NothingToCancel}
 use Rattle.model.specs.Shared.{nobody}
 use Rattle.model.specs.Threads.{at, put, marked, lockFree}
-use Rattle.model.specs.WellFormed.{Shaped, wellFormed}
-use Rattle.model.specs.Calls.{Call, begin, step, cancel, tick, State}
-use Rattle.model.specs.Refusals.{firstRefusal, noThread, lockOwned, badLength, placeRows, beginRows, laterRows, refusal}
+use Rattle.model.specs.WellFormed.{wellFormed}
+use Rattle.model.specs.Calls.{begin, step, cancel, tick, State}
+use Rattle.model.specs.Refusals.{firstRefusal, noThread, lockOwned, placeRows, beginRows, laterRows, refusal}
 use Rattle.model.specs.Promise.{state, Promise}
 use Rattle.model.specs.Schedule.{beginKind, stepKind, cancelKind, tickKind, kindByte, threadByte, operationOf, recordLength, front, lawful}
 use Rattle.model.proofs.Laws.{by, same?}

@@ -1,7 +1,7 @@
 -- What a program knows of its input: how far it is played, and the bytes behind that are kept.
 use mathlib.Core.Path.{_≡_}
-use mathlib.Core.Bool.{Bool, true, cond}
-use mathlib.Core.List.{List, _++_}
+use mathlib.Core.Bool.{Bool, true}
+use mathlib.Core.List.{List}
 use Prim.Native.Nat.{ℕ, _-_, _≤_}
 use Rattle.model.specs.Refusals.{makeRefusal}
 use Rattle.model.specs.Schedule.{threadByte, lawful}

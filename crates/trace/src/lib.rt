@@ -92,6 +92,7 @@ pub fn play(from: Playback, store: &mut [u32], bytes: &[u8]) -> Played
         let x = record[schedule::THREAD];
         at += schedule::record_length(kind);
         records += 1;
+        // a tick of every thread
         if kind == schedule::TICK {
             let mut k: usize = 0;
             while k < size {
@@ -101,11 +102,13 @@ pub fn play(from: Playback, store: &mut [u32], bytes: &[u8]) -> Played
             }
             continue;
         }
+        // a call of no thread
         if n <= x {
             refused += 1;
             continue;
         }
         let i = x as usize;
+        // a step
         if kind == schedule::STEP {
             let own = now.threads[i];
             if own.owner != threads::NOBODY {
@@ -132,6 +135,7 @@ pub fn play(from: Playback, store: &mut [u32], bytes: &[u8]) -> Played
             now.threads[i] = actions::change_own(change, own);
             continue;
         }
+        // a cancel
         let own = now.threads[i];
         if kind == schedule::CANCEL {
             if own.owner != threads::NOBODY {
@@ -141,6 +145,7 @@ pub fn play(from: Playback, store: &mut [u32], bytes: &[u8]) -> Played
             now.threads[i] = threads::mark_running(own);
             continue;
         }
+        // a begin
         let op = schedule::operation_at(record);
         if refusals::begin_refusal(n, x, own, op) != 0 {
             refused += 1;
