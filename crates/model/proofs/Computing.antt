@@ -73,7 +73,7 @@ unfolding Bondtrace.ascii Bondtrace.digits Bondtrace.decimal Bondtrace.signed Bo
 texts = 0
 
 unfoldable pub rows : ℕ
-unfolding Examples.answersOf Examples.run Examples.seen Examples.workedOut Examples.row
+unfolding Examples.worked Examples.seen Examples.workedOut Examples.row
 rows = 0
 
 unfoldable pub computing : ℕ

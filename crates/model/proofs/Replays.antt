@@ -10,7 +10,7 @@ use Rattle.model.specs.Threads.{newTable}
 use Rattle.model.specs.Calls.{Call, begin, cancel, tick, State}
 use Rattle.model.specs.Promise.{state}
 use Rattle.model.specs.Atomic.{firstMachine}
-use Rattle.model.specs.Examples.{sendTo, receiveOnly, openFor, closedFor, steps, run}
+use Rattle.model.specs.Examples.{sendTo, receiveOnly, openFor, closedFor, steps, worked}
 use Rattle.model.proofs.Replay.{agree}
 use Rattle.model.proofs.Computing.{computing}
 
@@ -81,7 +81,7 @@ abbrev oneOfEight : Operation
 oneOfEight = record { send = record { present = true; target = 1; count = 1; time = 15; words = 5 ∷ 6 ∷ 6 ∷ 6 ∷ 6 ∷ 6 ∷ 6 ∷ 6 ∷ [] }; receive = Absent }
 
 -- only the message is delivered: the receiver's other words stay zero, and those of thread 2 as they were
-pub only-the-message : run first (begin 1 (receiveOnly (openFor 15)) ∷ begin 0 oneOfEight ∷ steps 5 0) .store ≡
+pub only-the-message : worked first (begin 1 (receiveOnly (openFor 15)) ∷ begin 0 oneOfEight ∷ steps 5 0) .last .store ≡
     0 ∷ 0 ∷ 0 ∷ 0 ∷ 0 ∷ 0 ∷ 0 ∷ 0 ∷ 5 ∷ 0 ∷ 0 ∷ 0 ∷ 0 ∷ 0 ∷ 0 ∷ 0 ∷ 7 ∷ 7 ∷ 7 ∷ 7 ∷ 7 ∷ 7 ∷ 7 ∷ 7 ∷ []
 unfolding computing
 only-the-message = refl

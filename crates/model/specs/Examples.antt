@@ -19,7 +19,7 @@ use Rattle.model.specs.Calls.{Call, begin, step, cancel, tick, State}
 use Rattle.model.specs.Promise.{state, answer, next}
 use Rattle.model.specs.Atomic.{begins, cancels, ticks, rendezvous, aborts}
 use Rattle.model.specs.Linearization.{Entry}
-use Rattle.model.specs.Linearized.{linearization}
+use Rattle.model.specs.Linearized.{entry}
 
 -- what a row shows of a thread
 pub record Seen : Type 0 where
@@ -43,14 +43,18 @@ pub record ExampleRow : Type 0 where
   pub result : Result
 
 -- ---- working a row out
-unfoldable pub answersOf : State → List Call → List Said
-answersOf s [] = []
-answersOf s (c ∷ cs) = let after = next c s in answer c s ∷ answersOf after cs
+-- what some calls answer, the table and the store after them, and their linearization
+pub record Worked : Type 0 where
+  pub answers : List Said
+  pub last : State
+  pub linearization : List Entry
 
--- the table and the store after some calls
-unfoldable pub run : State → List Call → State
-run s [] = s
-run s (c ∷ cs) = let after = next c s in run after cs
+unfoldable pub worked : State → List Call → Worked
+worked s [] = record { answers = []; last = s; linearization = [] }
+worked s (c ∷ cs) =
+    let after = next c s in
+    let later = worked after cs in
+    record { answers = answer c s ∷ later .answers; last = later .last; linearization = entry c s ∷ later .linearization }
 
 -- what a row shows of a thread
 unfoldable pub seen : Thread → Seen
@@ -60,12 +64,12 @@ seen h = record { phase = phaseOf (h .phase); flags = h .flags; owner = h .owner
 unfoldable pub workedOut : ExampleRow → Result
 workedOut row =
     let first = state (newTable (row .n)) (replicate (8 * row .n) 7) in
-    let last = run first (row .calls) in
+    let all = worked first (row .calls) in
     record {
-      answers = answersOf first (row .calls);
-      threads = upTo (row .n) (λ x. seen (at (last .table) x));
-      store = last .store;
-      linearization = linearization first (row .calls);
+      answers = all .answers;
+      threads = upTo (row .n) (λ x. seen (at (all .last .table) x));
+      store = all .last .store;
+      linearization = all .linearization;
     }
 
 -- ---- short forms that the rows are written in
