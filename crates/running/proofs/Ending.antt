@@ -12,8 +12,9 @@ use Rattle.laws.proofs.Lists.{cond-true, cond-false}
 use Rattle.printing.specs.Texts.{tally, longestText, longestBadLine}
 use Rattle.printing.specs.Writing.{Printed}
 use Rattle.printing.proofs.Writing.{printed-whole}
-use Rattle.trace.specs.declared.Playback.{Playback}
-use Rattle.trace.specs.Playback.{tallyOf, Steady}
+use Rattle.opening.specs.declared.Playback.{Playback}
+use Rattle.trace.specs.Playback.{tallyOf}
+use Rattle.opening.specs.Opened.{Steady}
 use Rattle.trace.specs.Known.{Reached}
 use Rattle.trace.proofs.Known.{reached-text}
 use Rattle.running.proofs.Filling.{steady-few}

@@ -13,10 +13,11 @@ use Rattle.laws.proofs.Schedule.{front-thread}
 use Rattle.model.proofs.Numbers.{size-read}
 use Rattle.model.proofs.Tested.{well-formed-told}
 use Rattle.refill.specs.Refilled.{Refilled}
-use Rattle.trace.specs.declared.Playback.{Playback}
-use Rattle.trace.specs.Playback.{openRefusal, openSize, opened, Steady, Playable, PlayPromise, Carries}
+use Rattle.opening.specs.declared.Playback.{Playback}
+use Rattle.opening.specs.Opened.{openRefusal, openSize, opened, Steady}
+use Rattle.trace.specs.Playback.{Playable, PlayPromise, Carries}
 use Rattle.trace.specs.Known.{Reached}
-use Rattle.trace.proofs.Opening.{not-opened, opens, opened-size, opened-words}
+use Rattle.opening.proofs.Opening.{not-opened, opens, opened-size, opened-words}
 use Rattle.trace.proofs.Known.{reached-first, reached-more}
 use Rattle.running.specs.Input.{Starts, Along, Over}
 

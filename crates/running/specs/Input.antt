@@ -6,8 +6,8 @@ use Prim.Native.Nat.{ℕ}
 use lib.ListN.{length}
 use Rattle.model.specs.Refusals.{makeRefusal}
 use Rattle.model.specs.Schedule.{threadByte, lawful}
-use Rattle.trace.specs.declared.Playback.{Playback}
-use Rattle.trace.specs.Playback.{opened}
+use Rattle.opening.specs.declared.Playback.{Playback}
+use Rattle.opening.specs.Opened.{opened}
 use Rattle.trace.specs.Known.{Reached}
 
 -- the playback is that of a lawful table record

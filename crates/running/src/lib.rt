@@ -6,11 +6,11 @@ ghost use Prim.Native.Nat.{ℕ, _≤_};
 ghost use lib.ListN.{length, take};
 ghost use Rattle.io.specs.Counts.{Counts};
 ghost use Rattle.model.specs.Bondtrace.{bondtrace};
-ghost use Rattle.trace.specs.Playback.{Steady};
+ghost use Rattle.opening.specs.Opened.{Steady};
 ghost use Rattle.trace.specs.Known.{Reached};
 ghost use Rattle.running.specs.Input.{Starts, Over};
 use libc::STDOUT_FILENO;
-use trace::Playback;
+use opening::Playback;
 
 // How often the buffer is filled at most: with 65,536 bytes each time, no counter comes near its end.
 const MOST_REFILLS: u64 = 140737488355328;
@@ -84,7 +84,7 @@ pub fn run(input: i32) {
     let mut space = io::large_buffer();
     let buffer: &mut [u8] = &mut space;
     let filled = io::read_full(input, buffer);
-    let opened = trace::open(&buffer[..filled]);
+    let opened = opening::open(&buffer[..filled]);
     if opened.number != 0 {
         print_refused(opened.number);
         return;

@@ -12,8 +12,9 @@ use Rattle.core.proofs.Kept.{new-sized}
 use Rattle.pieces.specs.Playing.{Progress, ahead, playedOn}
 use Rattle.pieces.specs.Pieces.{fresh, nextPiece, KeepsPace, endText}
 use Rattle.pieces.proofs.Pieces.{pace-fresh, pace-next, pace-text}
-use Rattle.trace.specs.declared.Playback.{Playback}
-use Rattle.trace.specs.Playback.{tallyOf, opened, PlayPromise}
+use Rattle.opening.specs.declared.Playback.{Playback}
+use Rattle.trace.specs.Playback.{tallyOf, PlayPromise}
+use Rattle.opening.specs.Opened.{opened}
 use Rattle.trace.specs.Known.{known, Reached}
 
 -- behind the table record nothing has come yet

@@ -1,5 +1,4 @@
 pub mod Records
 pub mod Turns
 pub mod Ways
-pub mod Opening
 pub mod Known

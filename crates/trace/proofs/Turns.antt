@@ -23,7 +23,7 @@ use Rattle.pieces.specs.Playing.{Progress, playedOn, wholeRecord}
 use Rattle.pieces.proofs.Playing.{PlayedTo, played-to-none, played-to-more, played-to-end}
 use Rattle.core.specs.Runnable.{Runnable}
 use Rattle.core.proofs.Kept.{keeps-runnable, keeps-size}
-use Rattle.trace.specs.declared.Playback.{Playback}
+use Rattle.opening.specs.declared.Playback.{Playback}
 use Rattle.trace.specs.Playback.{tallyOf, Playable, PlayPromise, Carries}
 
 -- the bytes from a place on, as the code has them

@@ -25,7 +25,7 @@ use Rattle.laws.proofs.Rows.{first-here, first-later}
 use Rattle.laws.proofs.Groups.{later-refusal}
 use Rattle.core.proofs.Performed.{cancel-running, cancel-over}
 use Rattle.core.proofs.Kept.{tick-accepted, cancel-accepted, step-accepted, begin-number}
-use Rattle.trace.specs.declared.Playback.{Playback}
+use Rattle.opening.specs.declared.Playback.{Playback}
 use Rattle.trace.proofs.Records.{calls-tick, calls-step, calls-cancel, calls-begin, must-begin}
 use Rattle.trace.proofs.Turns.{from-place, Goes, turn-accepted, turn-refused}
 

@@ -7,7 +7,7 @@ use Rattle.model.specs.Refusals.{makeRefusal}
 use Rattle.model.specs.Schedule.{threadByte, lawful}
 use Rattle.model.specs.Bondtrace.{started}
 use Rattle.pieces.specs.Pieces.{Piecewise, KeepsPace}
-use Rattle.trace.specs.declared.Playback.{Playback}
+use Rattle.opening.specs.declared.Playback.{Playback}
 use Rattle.trace.specs.Playback.{tallyOf}
 
 -- a playback, its store and the bytes behind it, in the terms of `pieces`

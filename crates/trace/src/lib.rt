@@ -1,67 +1,14 @@
 // A trace that goes on: the records of a schedule are played as their bytes come in, from a table that needs no check.
 ghost use mathlib.Core.Path.{_≡_};
-ghost use Prim.Native.Nat.{_≤_};
 ghost use lib.ListN.{length};
 ghost use Rattle.pieces.specs.Playing.{wholeRecord};
-ghost use Rattle.trace.specs.Playback.{openSize, openRefusal, opened, Steady, Playable, PlayPromise, Carries};
-use model::Table;
-
-// How far a trace is played: the table, how many records were read and calls refused, and the byte at which the next record starts.
-pub struct Playback {
-    pub table: Table,
-    pub records: u64,
-    pub refused: u64,
-    pub place: u64,
-}
+ghost use Rattle.trace.specs.Playback.{Playable, PlayPromise, Carries};
+use opening::Playback;
 
 // How far playing came, and whether an unlawful record stands there.
 pub struct Played {
     pub playback: Playback,
     pub bad: bool,
-}
-
-// A trace of which only the table record is played, and the number by which that is refused, or 0.
-pub struct Opened {
-    pub number: u8,
-    pub playback: Playback,
-}
-
-// Only a table record of n threads is played.
-fn fresh(n: u8) -> Playback
-    ensures { λ r. ⌜ r ≡ opened n ⌝ }
-{
-    Playback {
-        table: core::new_table(n),
-        records: 1,
-        refused: 0,
-        place: 4,
-    }
-}
-
-// Reads the table record at the front of the bytes.
-pub fn open(bytes: &[u8]) -> Opened
-    ensures number { λ r. ⌜ r .number ≡ openRefusal (now (bytes .entry)) ⌝ }
-    ensures playback { λ r. ⌜ r .playback ≡ opened (openSize (now (bytes .entry))) ⌝ }
-    ensures steady { λ r. ⌜ (r .number ≡ 0 → (4 ≤ length (now (bytes .entry))) × Steady (r .playback)) ⌝ }
-{
-    if !schedule::is_lawful(true, bytes) {
-        return Opened {
-            number: schedule::BAD_RECORD,
-            playback: fresh(0),
-        };
-    }
-    let n = bytes[schedule::THREAD];
-    let number = refusals::size_refusal(n);
-    if number != 0 {
-        return Opened {
-            number: number,
-            playback: fresh(0),
-        };
-    }
-    Opened {
-        number: number,
-        playback: fresh(n),
-    }
 }
 
 // The bytes of a whole record have come in.

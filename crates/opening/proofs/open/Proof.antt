@@ -5,10 +5,10 @@ use native.Mathlib.Omega.{arith}
 use mathlib.Core.Bool.{true, false}
 use mathlib.Core.Path.{_≡_, sym, ap, _∙_, subst}
 use borrow.Author.Needs.{needs}
-use Rattle.trace.proofs.Opening.{opened-steady, not-opened, opened-size, refused-size, opens}
-use Rattle.trace.specs.Playback.{opened, Steady}
-use Rattle.trace.proofs.open.Statement.{statement}
-use Rattle.trace.proofs.open.Tie as tie
+use Rattle.opening.proofs.Opening.{opened-steady, not-opened, opened-size, refused-size, opens}
+use Rattle.opening.specs.Opened.{opened, Steady}
+use Rattle.opening.proofs.open.Statement.{statement}
+use Rattle.opening.proofs.open.Tie as tie
 
 is-lawful-requires : tie.Need-is-lawful-requires
 is-lawful-requires c κs = search needs

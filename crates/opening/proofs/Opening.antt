@@ -10,7 +10,7 @@ use Rattle.model.specs.Schedule.{threadByte, front, lawful}
 use Rattle.laws.proofs.Lists.{cond-true, cond-false}
 use Rattle.invariant.proofs.New.{new-size}
 use Rattle.core.proofs.Kept.{new-checked}
-use Rattle.trace.specs.Playback.{openRefusal, openSize, opened, Steady}
+use Rattle.opening.specs.Opened.{openRefusal, openSize, opened, Steady}
 
 module _ (input : List ℕ) where
   -- bytes that do not start with a lawful table record are refused

@@ -1,9 +1,9 @@
 use Rattle.model.specs.declared.Table.{Table}
 use mathlib.Core.Path.{ap}
 use borrow.Author.Needs.{needs}
-use Rattle.trace.specs.Playback.{opened}
-use Rattle.trace.proofs.fresh.Statement.{statement}
-use Rattle.trace.proofs.fresh.Tie as tie
+use Rattle.opening.specs.Opened.{opened}
+use Rattle.opening.proofs.fresh.Statement.{statement}
+use Rattle.opening.proofs.fresh.Tie as tie
 
 new-table-requires : tie.Need-new-table-requires
 new-table-requires c κs = search needs
