@@ -6,7 +6,7 @@ use Prim.Native.Nat.{ℕ}
 use Rattle.model.specs.declared.Thread.{Thread}
 use Rattle.model.specs.declared.Answer.{Answer}
 use Rattle.model.specs.Answers.{replied, said}
-use Rattle.model.specs.Shared.{receiveTimeOver, sendTimeOver, receiveCancelled, sendCancelled}
+use Rattle.model.specs.Codes.{receiveTimeOver, sendTimeOver, receiveCancelled, sendCancelled}
 use Rattle.model.specs.Step.{Action, abortSend, finishCall, finishSend, abortReceive, replyOf, ownAfter, otherAfter}
 use Rattle.actions.specs.declared.Change.{Change}
 use Rattle.actions.specs.declared.Ending.{Ending}

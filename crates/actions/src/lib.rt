@@ -4,7 +4,7 @@ ghost use mathlib.Core.Option.{some};
 ghost use Prim.Native.Nat.{ℕ, _<_};
 ghost use lib.ListN.{length, getD, set};
 ghost use Rattle.model.specs.Answers.{Reply, said, replied};
-ghost use Rattle.model.specs.Threads.{Phase, phaseNumber};
+ghost use Rattle.model.specs.Phases.{Phase, phaseNumber};
 ghost use Rattle.model.specs.Step.{Action, stay, takeLock, startCopy, toRelease, copyWord, freeTarget, retry, toIdle, takeSender, clearPoll, freeSender};
 ghost use Rattle.actions.specs.Acted.{keeping as Acted·keeping};
 ghost use Rattle.actions.specs.Acted.{ownChanged, otherChanged, endingAction, ends, Acted};

@@ -4,8 +4,10 @@ use Prim.Native.Nat.{ℕ}
 use lib.Dec.{ltb}
 use Rattle.model.specs.declared.Operation.{Operation}
 use Rattle.model.specs.declared.Thread.{Thread}
-use Rattle.model.specs.Shared.{noReceiver, codeOnly}
-use Rattle.model.specs.Threads.{lock, look, ended, joined}
+use Rattle.model.specs.Codes.{noReceiver, codeOnly}
+use Rattle.model.specs.Phases.{lock, look}
+use Rattle.model.specs.Threads.{ended}
+use Rattle.model.specs.Queues.{joined}
 use Rattle.model.specs.Calls.{begun}
 
 -- it joins a queue: it has a send part, and its target is in the table

@@ -2,8 +2,8 @@
 ghost use mathlib.Core.Path.{_≡_};
 ghost use mathlib.Core.Bool.{true};
 ghost use Prim.Native.Nat.{_<_};
-ghost use Rattle.model.specs.Shared.{firstTime};
-ghost use Rattle.model.specs.Threads.{Phase, phaseNumber};
+ghost use Rattle.model.specs.Operations.{firstTime};
+ghost use Rattle.model.specs.Phases.{Phase, phaseNumber};
 ghost use Rattle.model.specs.Calls.{begunFlags, begun};
 ghost use Rattle.begins.specs.Begun.{joinedPlace, queueJoined, ownBegun};
 ghost use Rattle.begins.specs.Begun.{joins as Begun·joins};

@@ -10,7 +10,7 @@ use mir.Val.{SFits, ofZ}
 use mir.Facts.{toZ-ofZ}
 use borrow.Author.Tests.{ltb-true, ltb-false, lt-leb, eqb-true, eq-eqb, ne-eqb}
 use Rattle.model.specs.Lists.{allBelow}
-use Rattle.model.specs.Shared.{codes, isFailure, sameCode}
+use Rattle.model.specs.Codes.{codes, isFailure, sameCode}
 use Rattle.model.specs.WellFormed.{isCode}
 use Rattle.model.proofs.Laws.{by, alike-read, all-below-read}
 use Rattle.laws.proofs.Codes.{code-itself, code-is}

@@ -6,8 +6,9 @@ use native.Mathlib.Omega.{arith}
 use lib.ListN.{List·getD-eq-default}
 use lib.Dec.{eqb, ltb}
 use borrow.Author.Tests.{ltb-true, ltb-false, ne-eqb}
-use Rattle.model.specs.Shared.{nobody}
-use Rattle.model.specs.Threads.{phases, check, copy, release, wake, unlock, unknown, phaseOf, phaseNumber, lockHeldIn}
+use Rattle.model.specs.Codes.{nobody}
+use Rattle.model.specs.Phases.{phases, check, copy, release, wake, unlock, unknown, phaseOf, phaseNumber}
+use Rattle.model.specs.Locks.{lockHeldIn}
 use Rattle.model.proofs.Laws.{by, same?, _and_}
 
 -- P of each number below n

@@ -4,7 +4,8 @@ use mathlib.Core.List.{[], _∷_}
 use Prim.Native.Nat.{ℕ}
 use Rattle.model.specs.declared.Thread.{Thread}
 use Rattle.model.specs.Lists.{allOf}
-use Rattle.model.specs.Shared.{nobody, hasReceive}
+use Rattle.model.specs.Codes.{nobody}
+use Rattle.model.specs.Operations.{hasReceive}
 use Rattle.formed.proofs.Flags.{flagsFit}
 use Rattle.formed.proofs.Own.{outcomeFits, operationFits, phaseFits, queueFits}
 

@@ -1,7 +1,7 @@
 // Tests of one thread by itself, and whom it sends to, copies to and locks: each returns what a definition says.
 ghost use mathlib.Core.Path.{_≡_};
-ghost use Rattle.model.specs.Shared.{codes};
-ghost use Rattle.model.specs.Threads.{lockHeld};
+ghost use Rattle.model.specs.Codes.{codes};
+ghost use Rattle.model.specs.Locks.{lockHeld};
 ghost use Rattle.model.specs.WellFormed.{isCode, sendInRange, receiveInRange};
 ghost use Rattle.formed.proofs.Flags.{flagsFit};
 ghost use Rattle.formed.proofs.Own.{outcomeFits, operationFits, phaseFits, queueFits};

@@ -7,7 +7,8 @@ use lib.ListN.{length}
 use borrow.Author.Tests.{lt-leb}
 use Rattle.model.specs.declared.Operation.{Operation}
 use Rattle.model.specs.declared.Answer.{Answer}
-use Rattle.model.specs.Threads.{newTable, at, lockFree}
+use Rattle.model.specs.Threads.{newTable, at}
+use Rattle.model.specs.Locks.{lockFree}
 use Rattle.model.specs.WellFormed.{WellFormed, wellFormed}
 use Rattle.model.specs.Calls.{Call, begin, step, cancel, tick, State}
 use Rattle.model.specs.Refusals.{firstRefusal, unless, noThread, lockOwned, placeRows, beginRows, laterRows, refusal, makeRefusal}

@@ -16,8 +16,12 @@ use Rattle.model.specs.declared.Table.{Table}
 use Rattle.model.specs.declared.Answer.{Answer}
 use Rattle.model.specs.declared.Answer.the-variants.{Accepted, Marked, NothingToCancel}
 use Rattle.model.specs.Answers.{replied, said}
-use Rattle.model.specs.Shared.{noReceiver, codeOnly, targetBeyond}
-use Rattle.model.specs.Threads.{lock, look, at, put, edit, editBelow, marked, ended, joined, zeroed}
+use Rattle.model.specs.Codes.{noReceiver, codeOnly}
+use Rattle.model.specs.Operations.{targetBeyond}
+use Rattle.model.specs.Phases.{lock, look}
+use Rattle.model.specs.Threads.{at, put, edit, editBelow, marked, ended}
+use Rattle.model.specs.Queues.{joined}
+use Rattle.model.specs.Store.{zeroed}
 use Rattle.model.specs.WellFormed.{Shaped}
 use Rattle.model.specs.Calls.{begun, beginTable, cancelTable, cancelReply, ticked, tickTable, Call, begin, cancel, tick, State, acceptedReply, acceptedState}
 use Rattle.model.specs.Refusals.{rowsOf, refusal, tableRows, placeRows, beginRows, laterRows}

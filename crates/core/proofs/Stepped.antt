@@ -15,10 +15,15 @@ use Rattle.model.specs.declared.Thread.{Thread}
 use Rattle.model.specs.declared.Table.{Table}
 use Rattle.model.specs.declared.Answer.the-variants.{Held}
 use Rattle.model.specs.Answers.{held, replied}
-use Rattle.model.specs.Shared.{receiveCancelled, sendCancelled, sendTimeOver, nobody, hasReceive}
-use Rattle.model.specs.Threads.{Phase, idle, lock, check, copy, release, sleep, look, wake, unlock, unknown, phaseOf, phaseNumber, at, put, lockFree, findSender}
+use Rattle.model.specs.Codes.{receiveCancelled, sendCancelled, sendTimeOver, nobody}
+use Rattle.model.specs.Operations.{hasReceive}
+use Rattle.model.specs.Phases.{Phase, idle, lock, check, copy, release, sleep, look, wake, unlock, unknown, phaseOf, phaseNumber}
+use Rattle.model.specs.Threads.{at, put}
+use Rattle.model.specs.Locks.{lockFree}
+use Rattle.model.specs.Queues.{findSender}
 use Rattle.model.specs.WellFormed.{Shaped}
-use Rattle.model.specs.Step.{Action, abortSend, abortReceive, toIdle, copyWord, stay, other, lookAt, decideIn, decide, replyOf, ownAfter, otherAfter, act, wordCopied, storeAfter}
+use Rattle.model.specs.Step.{Action, abortSend, abortReceive, toIdle, copyWord, stay, other, lookAt, decideIn, decide, replyOf, ownAfter, otherAfter, act, storeAfter}
+use Rattle.model.specs.Store.{wordCopied}
 use Rattle.model.specs.Calls.{step, State, acceptedReply, acceptedState}
 use Rattle.model.specs.Refusals.{refusal}
 use Rattle.model.specs.Promise.{Promise, state}

@@ -2,7 +2,7 @@
 use mathlib.Core.Bool.{cond}
 use Prim.Native.Nat.{ℕ}
 use lib.Dec.{eqb}
-use Rattle.model.specs.Shared.{nobody}
+use Rattle.model.specs.Codes.{nobody}
 
 -- the thread that is read and written as the other one: o, or x itself where there is no other
 unfoldable pub orOwn : ℕ → ℕ → ℕ

@@ -4,7 +4,7 @@ use mathlib.Core.Bool.{Bool, true, false}
 use Prim.Native.Nat.{ℕ, _≤_}
 use Rattle.model.specs.declared.Thread.{Thread}
 use Rattle.model.specs.Lists.{occurs}
-use Rattle.model.specs.Threads.{senders}
+use Rattle.model.specs.Queues.{senders}
 use Rattle.model.specs.Step.{Action, ownAfter, otherAfter}
 use Rattle.actions.specs.declared.Ending.{Ending}
 use Rattle.actions.specs.declared.Ending.the-variants.{Nothing, SendCancelled, SendTimeOver, CallFinished, SendFinished, ReceiveCancelled, ReceiveTimeOver}

@@ -8,7 +8,8 @@ use borrow.Author.Tests.{leb-false, not-false}
 use Rattle.model.specs.declared.Answer.the-variants.{Refused, Accepted}
 use Rattle.model.specs.declared.Table.{Table}
 use Rattle.model.specs.declared.Returned.{Returned}
-use Rattle.model.specs.Threads.{newTable, at, lockFree}
+use Rattle.model.specs.Threads.{newTable, at}
+use Rattle.model.specs.Locks.{lockFree}
 use Rattle.model.specs.Calls.{Call, State, cancel}
 use Rattle.model.specs.Refusals.{firstRefusal, refusal, makeRefusal, unless, tableRows, laterRows, noThread, lockOwned}
 use Rattle.model.specs.Promise.{state, Promise, makeAnswer, madeTable, MakePromise}

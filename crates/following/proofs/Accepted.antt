@@ -16,7 +16,8 @@ use Rattle.model.specs.declared.Table.{Table}
 use Rattle.model.specs.Threads.{newTable}
 use Rattle.model.specs.Answers.{Said, Reply, accepted, refused, replied, said}
 use Rattle.model.specs.Refusals.{unless, badSize, makeRefusal}
-use Rattle.model.specs.Schedule.{beginKind, recordLength, lawful, front, recordOf, unreadable, decodeRefusal, decodeAnswer, decode, DecodePromise}
+use Rattle.model.specs.RecordBytes.{beginKind, recordLength, lawful}
+use Rattle.model.specs.Decoding.{front, recordOf, unreadable, decodeRefusal, decodeAnswer, decode, DecodePromise}
 use Rattle.model.specs.Promise.{makeAnswer, MakePromise}
 use Rattle.model.proofs.Answer.{the-type}
 use Rattle.model.proofs.Laws.{by}

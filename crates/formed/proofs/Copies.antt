@@ -5,7 +5,7 @@ use mathlib.Core.Bool.{Bool, true}
 use Prim.Native.Nat.{ℕ, _≤_, _<_}
 use native.Mathlib.Omega.{arith}
 use Rattle.model.specs.Lists.{update}
-use Rattle.model.specs.Shared.{nobody}
+use Rattle.model.specs.Codes.{nobody}
 use Rattle.model.proofs.Laws.{same?}
 use Rattle.laws.proofs.Lists.{update-same, update-other}
 

@@ -8,8 +8,9 @@ use borrow.Author.Tests.{ltb-true, leb-true, eqb-false, not-true}
 use lib.Dec.{leb, ltb}
 use Rattle.model.specs.declared.Thread.{Thread}
 use Rattle.model.specs.Lists.{implies}
-use Rattle.model.specs.Shared.{wordLimit, isTimeCode}
-use Rattle.model.specs.Threads.{copy, release, wake, unlock}
+use Rattle.model.specs.Operations.{wordLimit}
+use Rattle.model.specs.Times.{isTimeCode}
+use Rattle.model.specs.Phases.{copy, release, wake, unlock}
 use Rattle.model.specs.WellFormed.{sendInRange}
 use Rattle.model.proofs.Laws.{and-left, and-right, implies-read, all-of-read, All}
 use Rattle.formed.proofs.Flags.{cases, isOneOf, told-any}

@@ -10,8 +10,8 @@ use borrow.Author.Tests.{leb-true}
 use Rattle.model.specs.declared.Flags.{Flags}
 use Rattle.model.specs.declared.Thread.{Thread}
 use Rattle.model.specs.Lists.{implies, allOf, allBelow}
-use Rattle.model.specs.Shared.{hasReceive}
-use Rattle.model.specs.Threads.{phases, Phase, idle, lock, check, copy, release, sleep, look, wake, unlock, phaseNumber}
+use Rattle.model.specs.Operations.{hasReceive}
+use Rattle.model.specs.Phases.{phases, Phase, idle, lock, check, copy, release, sleep, look, wake, unlock, phaseNumber}
 use Rattle.model.proofs.Laws.{and-left, and-right, implies-read, all-of-read, all-below-read}
 
 -- the number k is that of one of these phases

@@ -6,8 +6,11 @@ use Prim.Native.Nat.{ℕ, _≤_, _<_}
 use native.Mathlib.Omega.{arith}
 use Rattle.model.specs.declared.Thread.{Thread}
 use Rattle.model.specs.declared.Table.{Table}
-use Rattle.model.specs.Shared.{nobody}
-use Rattle.model.specs.Threads.{copy, phaseOf, at, senders, ready, lockHeld}
+use Rattle.model.specs.Codes.{nobody}
+use Rattle.model.specs.Phases.{copy, phaseOf}
+use Rattle.model.specs.Threads.{at}
+use Rattle.model.specs.Queues.{senders, ready}
+use Rattle.model.specs.Locks.{lockHeld}
 use Rattle.model.specs.WellFormed.{sizeInRange, inPhase, sendsTo, ownerOf, copiesToReady, Shaped, WellFormed}
 use Rattle.model.proofs.Laws.{by, implies-read, implies-made}
 use Rattle.model.proofs.Numbers.{size-read}

@@ -10,8 +10,11 @@ use borrow.Author.Tests.{not-true, eq-eqb, ne-eqb, ltb-true, lt-ltb, le-ltb}
 use Rattle.formed.proofs.Copies.{Copies, copies-elsewhere}
 use Rattle.model.specs.declared.Thread.{Thread}
 use Rattle.model.specs.Lists.{bit, occurs, implies, update}
-use Rattle.model.specs.Shared.{nobody, hasReceive}
-use Rattle.model.specs.Threads.{idle, look, Phase, lock, check, copy, release, wake, unlock, phaseOf, phaseNumber, senders, lockHeldIn, ready}
+use Rattle.model.specs.Codes.{nobody}
+use Rattle.model.specs.Operations.{hasReceive}
+use Rattle.model.specs.Phases.{idle, look, Phase, lock, check, copy, release, wake, unlock, phaseOf, phaseNumber}
+use Rattle.model.specs.Queues.{senders, ready}
+use Rattle.model.specs.Locks.{lockHeldIn}
 use Rattle.model.specs.WellFormed.{sendsTo}
 use Rattle.model.proofs.Laws.{by, same?, and-left, and-right, few-enough}
 use Rattle.laws.proofs.Lists.{bit-small}

@@ -11,8 +11,10 @@ use Rattle.model.specs.declared.Queue.{Queue}
 use Rattle.model.specs.declared.Outcome.{Outcome}
 use Rattle.model.specs.declared.Thread.{Thread}
 use Rattle.model.specs.Lists.{implies, allOf}
-use Rattle.model.specs.Shared.{done, running, codes, sameCode, nobody, wordLimit, isLeft, closedOn}
-use Rattle.model.specs.Threads.{copy, release, wake, unlock}
+use Rattle.model.specs.Codes.{done, running, codes, sameCode, nobody}
+use Rattle.model.specs.Operations.{wordLimit, closedOn}
+use Rattle.model.specs.Times.{isLeft}
+use Rattle.model.specs.Phases.{copy, release, wake, unlock}
 use Rattle.model.specs.WellFormed.{inPhase, isCode, nobodyOrBelow, sendInRange, receiveInRange, numbersInRange, ipcWithRunning, bareUnlessDone, notWithItself, sendAndMarkWithIpc, pollWithSend, receivingWithPart, ipcWithoutSend, idleWithoutFlags, releaseHasTarget, receiversSendClear, sendersSendSet}
 use Rattle.model.proofs.Laws.{_and_, all-of-read, all-of-made}
 use Rattle.formed.proofs.Flags.{isOneOf, flagsFit, FlagsFit}

@@ -7,8 +7,10 @@ use lib.Dec.{eqb}
 use borrow.Author.Tests.{eqb-true}
 use Rattle.model.specs.declared.Outcome.{Outcome}
 use Rattle.model.specs.declared.Thread.{Thread}
-use Rattle.model.specs.Shared.{running, sameCode, nobody, wordLimit}
-use Rattle.model.specs.Threads.{copy, phaseOf, ready}
+use Rattle.model.specs.Codes.{running, sameCode, nobody}
+use Rattle.model.specs.Operations.{wordLimit}
+use Rattle.model.specs.Phases.{copy, phaseOf}
+use Rattle.model.specs.Queues.{ready}
 use Rattle.model.proofs.Laws.{and-right, alike-read, all-of-read}
 use Rattle.laws.proofs.Ready.{ready-read}
 use Rattle.laws.proofs.Codes.{code-is}

@@ -12,8 +12,12 @@ use Rattle.model.specs.declared.Operation.{Operation}
 use Rattle.model.specs.declared.Outcome.{Outcome}
 use Rattle.model.specs.declared.Thread.{Thread}
 use Rattle.model.specs.Lists.{implies, allOf, occurs}
-use Rattle.model.specs.Shared.{isLeft, done, nobody, codes, sameCode, wordLimit, codeOnly, running}
-use Rattle.model.specs.Threads.{Phase, noFlags, entering, withOwner, polled, ended, senders, joined, departed, phaseNumber, copy, release, wake, unlock}
+use Rattle.model.specs.Times.{isLeft}
+use Rattle.model.specs.Codes.{done, nobody, codes, sameCode, codeOnly, running}
+use Rattle.model.specs.Operations.{wordLimit}
+use Rattle.model.specs.Phases.{Phase, phaseNumber, copy, release, wake, unlock}
+use Rattle.model.specs.Threads.{noFlags, entering, withOwner, polled, ended}
+use Rattle.model.specs.Queues.{senders, joined, departed}
 use Rattle.model.specs.WellFormed.{isCode, nobodyOrBelow}
 use Rattle.model.proofs.Laws.{implies-read, implies-made, _and_, all-of-read, all-of-made}
 use Rattle.laws.proofs.Queues.{departed-length, joined-length}

@@ -11,8 +11,12 @@ use Rattle.model.specs.declared.Operation.{Operation}
 use Rattle.model.specs.declared.Thread.{Thread}
 use Rattle.model.specs.declared.Table.{Table}
 use Rattle.model.specs.Lists.{allOf, update}
-use Rattle.model.specs.Shared.{noReceiver, nobody, codeOnly, closedOn, hasReceive, firstTime, tickCount}
-use Rattle.model.specs.Threads.{Phase, idle, lock, look, phaseOf, phaseNumber, at, editBelow, marked, ended, joined, senders, ready}
+use Rattle.model.specs.Codes.{noReceiver, nobody, codeOnly}
+use Rattle.model.specs.Operations.{closedOn, hasReceive, firstTime}
+use Rattle.model.specs.Times.{tickCount}
+use Rattle.model.specs.Phases.{Phase, idle, lock, look, phaseOf, phaseNumber}
+use Rattle.model.specs.Threads.{at, editBelow, marked, ended}
+use Rattle.model.specs.Queues.{joined, senders, ready}
 use Rattle.model.specs.WellFormed.{isCode, nobodyOrBelow, sendInRange, receiveInRange, sendsTo}
 use Rattle.model.specs.Calls.{begunFlags, begun, ticked}
 use Rattle.model.proofs.Laws.{implies-made, _and_, all-of-made}

@@ -4,7 +4,9 @@ use mathlib.Core.Logic.{_≢_}
 use Prim.Native.Nat.{ℕ, _<_}
 use Rattle.model.specs.declared.Thread.{Thread}
 use Rattle.model.specs.Lists.{update}
-use Rattle.model.specs.Threads.{at, senders, ready, lockHeld}
+use Rattle.model.specs.Threads.{at}
+use Rattle.model.specs.Queues.{senders, ready}
+use Rattle.model.specs.Locks.{lockHeld}
 use Rattle.model.specs.WellFormed.{sendsTo}
 use Rattle.model.proofs.Laws.{same?}
 use Rattle.laws.proofs.Lists.{update-same, update-other, update-own}

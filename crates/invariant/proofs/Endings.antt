@@ -7,8 +7,12 @@ use lib.IntN.{ℤ}
 use borrow.Author.Tests.{not-true}
 use Rattle.model.specs.declared.Thread.{Thread}
 use Rattle.model.specs.Lists.{update, occurs}
-use Rattle.model.specs.Shared.{done, nobody, codes, running, sameCode, hasReceive, receiveTime}
-use Rattle.model.specs.Threads.{check, copy, look, phaseOf, noFlags, senders, departed, ready, idle, release, lockHeld}
+use Rattle.model.specs.Codes.{done, nobody, codes, running, sameCode}
+use Rattle.model.specs.Operations.{hasReceive, receiveTime}
+use Rattle.model.specs.Phases.{check, copy, look, phaseOf, idle, release}
+use Rattle.model.specs.Threads.{noFlags}
+use Rattle.model.specs.Queues.{senders, departed, ready}
+use Rattle.model.specs.Locks.{lockHeld}
 use Rattle.model.specs.WellFormed.{isCode, sendsTo}
 use Rattle.model.specs.Step.{abortSend, finishCall, finishSend, abortReceive, received, ownAfter, otherAfter}
 use Rattle.model.proofs.Laws.{same?}

@@ -5,7 +5,8 @@ use mathlib.Core.List.{List}
 use Prim.Native.Nat.{ℕ}
 use lib.ListN.{length}
 use Rattle.model.specs.declared.Thread.{Thread}
-use Rattle.model.specs.Threads.{at, edit, joined, marked}
+use Rattle.model.specs.Threads.{at, edit, marked}
+use Rattle.model.specs.Queues.{joined}
 use Rattle.model.specs.Step.{Action, decide, storeAfter}
 use Rattle.model.specs.Calls.{ticked, tickTable, Call, begin, step, cancel, tick, State, acceptedState}
 use Rattle.model.specs.Promise.{next}

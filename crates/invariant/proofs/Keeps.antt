@@ -9,8 +9,10 @@ use Rattle.model.specs.declared.Operation.{Operation}
 use Rattle.model.specs.declared.Thread.{Thread}
 use Rattle.model.specs.declared.Table.{Table}
 use Rattle.model.specs.Lists.{update}
-use Rattle.model.specs.Shared.{nobody, targetBeyond}
-use Rattle.model.specs.Threads.{at, edit, joined}
+use Rattle.model.specs.Codes.{nobody}
+use Rattle.model.specs.Operations.{targetBeyond}
+use Rattle.model.specs.Threads.{at, edit}
+use Rattle.model.specs.Queues.{joined}
 use Rattle.model.specs.WellFormed.{Shaped, WellFormed, wellFormed}
 use Rattle.model.specs.Step.{decide}
 use Rattle.model.specs.Calls.{ticked, beginTable, tickTable, Call, begin, step, cancel, tick, State, acceptedState}

@@ -4,8 +4,11 @@ use mathlib.Core.Bool.{true≢false, true, false, not}
 use Prim.Native.Nat.{ℕ, _≤_, _<_}
 use Rattle.model.specs.declared.Thread.{Thread}
 use Rattle.model.specs.Lists.{update, occurs}
-use Rattle.model.specs.Shared.{nobody}
-use Rattle.model.specs.Threads.{Phase, idle, lock, check, release, sleep, look, wake, unlock, phaseOf, phaseNumber, entering, withOwner, senders, ready, lockHeld}
+use Rattle.model.specs.Codes.{nobody}
+use Rattle.model.specs.Phases.{Phase, idle, lock, check, release, sleep, look, wake, unlock, phaseOf, phaseNumber}
+use Rattle.model.specs.Threads.{entering, withOwner}
+use Rattle.model.specs.Queues.{senders, ready}
+use Rattle.model.specs.Locks.{lockHeld}
 use Rattle.model.specs.WellFormed.{nobodyOrBelow, sendsTo}
 use Rattle.model.specs.Step.{takeLock, freeTarget, takeSender, freeSender, ownAfter, otherAfter}
 use Rattle.laws.proofs.Phases.{lock-held-in}

@@ -4,7 +4,8 @@ use mathlib.Core.Bool.{true, false, not}
 use Prim.Native.Nat.{ℕ, _+_, _<_}
 use native.Mathlib.Omega.{arith}
 use Rattle.model.specs.declared.Thread.{Thread}
-use Rattle.model.specs.Threads.{idle, lock, check, copy, release, sleep, look, wake, unlock, phaseOf, ready, phaseNumber}
+use Rattle.model.specs.Phases.{idle, lock, check, copy, release, sleep, look, wake, unlock, phaseOf, phaseNumber}
+use Rattle.model.specs.Queues.{ready}
 use Rattle.model.specs.Step.{startCopy, toRelease, copyWord, retry, toIdle, clearPoll, ownAfter, otherAfter}
 use Rattle.laws.proofs.Phases.{lock-held-in}
 use Rattle.laws.proofs.Decided.{otherOf, afterAction}

@@ -9,8 +9,11 @@ use lib.Dec.{ltb}
 use borrow.Author.Tests.{ltb-true, not-false}
 use Rattle.model.specs.declared.Thread.{Thread}
 use Rattle.model.specs.Lists.{implies, allOf, occurs}
-use Rattle.model.specs.Shared.{nobody}
-use Rattle.model.specs.Threads.{phaseOf, newThread, newTable, zeroThread, at, senders, lockHeld}
+use Rattle.model.specs.Codes.{nobody}
+use Rattle.model.specs.Phases.{phaseOf}
+use Rattle.model.specs.Threads.{newThread, newTable, zeroThread, at}
+use Rattle.model.specs.Queues.{senders}
+use Rattle.model.specs.Locks.{lockHeld}
 use Rattle.model.specs.WellFormed.{sizeInRange, inPhase, isCode, nobodyOrBelow, numbersInRange, ipcWithRunning, bareUnlessDone, notWithItself, sendAndMarkWithIpc, pollWithSend, receivingWithPart, ipcWithoutSend, idleWithoutFlags, releaseHasTarget, receiversSendClear, sendersSendSet, copiesToReady, sendsTo, ownerOf, chain, Shaped, Each, WellFormed}
 use Rattle.model.specs.Refusals.{unless, badSize, makeRefusal}
 use Rattle.model.specs.Promise.{madeTable}

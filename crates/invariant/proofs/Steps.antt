@@ -8,8 +8,9 @@ use lib.IntN.{ℤ}
 use Rattle.model.specs.declared.Table.{Table}
 use Rattle.model.specs.Answers.{Reply, held}
 use Rattle.model.specs.Lists.{update}
-use Rattle.model.specs.Shared.{nobody, receiveTimeOver, sendTimeOver, receiveCancelled, sendCancelled}
-use Rattle.model.specs.Threads.{Phase, check, look, release, phaseOf, at}
+use Rattle.model.specs.Codes.{nobody, receiveTimeOver, sendTimeOver, receiveCancelled, sendCancelled}
+use Rattle.model.specs.Phases.{Phase, check, look, release, phaseOf}
+use Rattle.model.specs.Threads.{at}
 use Rattle.model.specs.WellFormed.{isCode}
 use Rattle.model.specs.Step.{Action, stay, takeLock, abortSend, startCopy, toRelease, copyWord, finishCall, finishSend, freeTarget, retry, toIdle, abortReceive, takeSender, clearPoll, freeSender, other, decide, ownAfter, otherAfter, act}
 use Rattle.laws.proofs.Lists.{update-own}

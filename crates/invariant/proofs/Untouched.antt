@@ -11,10 +11,13 @@ use Rattle.model.specs.declared.Operation.{Operation}
 use Rattle.model.specs.declared.Thread.{Thread}
 use Rattle.model.specs.declared.Table.{Table}
 use Rattle.model.specs.Lists.{update}
-use Rattle.model.specs.Shared.{wordLimit}
-use Rattle.model.specs.Threads.{copy, phaseOf, phaseNumber, at, edit, joined, wordsAt}
+use Rattle.model.specs.Operations.{wordLimit}
+use Rattle.model.specs.Phases.{copy, phaseOf, phaseNumber}
+use Rattle.model.specs.Threads.{at, edit}
+use Rattle.model.specs.Queues.{joined}
+use Rattle.model.specs.Store.{wordsAt, wordCopied}
 use Rattle.model.specs.WellFormed.{inPhase, sendInRange, numbersInRange, sendAndMarkWithIpc, sendersSendSet, Shaped, WellFormed}
-use Rattle.model.specs.Step.{copyWord, decide, otherAfter, act, wordCopied, storeAfter}
+use Rattle.model.specs.Step.{copyWord, decide, otherAfter, act, storeAfter}
 use Rattle.model.specs.Calls.{ticked, beginTable, cancelTable, tickTable, Call, begin, step, cancel, tick, State, acceptedState}
 use Rattle.model.specs.Refusals.{refusal}
 use Rattle.model.specs.Promise.{next}

@@ -4,7 +4,7 @@ use mathlib.Core.Bool.{true}
 use Prim.Native.Nat.{ℕ}
 use Rattle.model.specs.declared.Receive.{Receive}
 use Rattle.model.specs.declared.Receive.the-variants.{Absent, Open, Closed}
-use Rattle.model.specs.Shared.{hasReceive, accepts}
+use Rattle.model.specs.Operations.{hasReceive, accepts}
 
 -- a receive part that accepts somebody is there
 pub accepts-there : (w : Receive) (s : ℕ) → accepts w s ≡ true → hasReceive w ≡ true

@@ -10,8 +10,11 @@ use Rattle.model.specs.declared.Operation.{Operation}
 use Rattle.model.specs.declared.Table.{Table}
 use Rattle.model.specs.declared.Answer.{Answer}
 use Rattle.model.specs.Answers.{Reply, nothingToCancel, refused, replied, said}
-use Rattle.model.specs.Shared.{noReceiver, codeOnly, targetBeyond}
-use Rattle.model.specs.Threads.{lock, look, at, edit, marked, ended, joined}
+use Rattle.model.specs.Codes.{noReceiver, codeOnly}
+use Rattle.model.specs.Operations.{targetBeyond}
+use Rattle.model.specs.Phases.{lock, look}
+use Rattle.model.specs.Threads.{at, edit, marked, ended}
+use Rattle.model.specs.Queues.{joined}
 use Rattle.model.specs.Calls.{begun, beginTable, cancelTable, cancelReply, Call, State, acceptedReply, acceptedState}
 use Rattle.model.specs.Refusals.{unless, refusal}
 use Rattle.model.specs.Promise.{answer, next, Promise}

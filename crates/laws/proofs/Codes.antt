@@ -4,7 +4,7 @@ use mathlib.Core.Logic.{_≢_}
 use mathlib.Core.Bool.{true≢false, true, false}
 use lib.IntN.{ℤ, pos, negsuc}
 use borrow.Author.Tests.{eqb-true, eq-eqb}
-use Rattle.model.specs.Shared.{sameCode}
+use Rattle.model.specs.Codes.{sameCode}
 use Rattle.model.proofs.Laws.{by}
 
 -- a code is the same as itself

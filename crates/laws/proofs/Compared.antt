@@ -7,7 +7,7 @@ use Prim.Native.Nat.{ℕ}
 use borrow.Author.Tests.{eq-eqb}
 use Rattle.model.specs.Answers.{Said, refused, replied}
 use Rattle.model.specs.Calls.{Call, begin, step, cancel, tick}
-use Rattle.model.specs.Shared.{View}
+use Rattle.model.specs.Codes.{View}
 use Rattle.model.specs.Atomic.{Machine, begins, cancels, ticks, rendezvous, aborts}
 use Rattle.model.specs.Linearization.{Entry, AtCall}
 use Rattle.model.proofs.Replay.{sameWords, sameView, replyNumber, answerTest}

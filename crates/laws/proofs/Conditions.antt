@@ -7,7 +7,7 @@ use Prim.Native.Nat.{ℕ}
 use lib.Dec.{eqb}
 use lib.IntN.{ℤ}
 use borrow.Author.Tests.{eqb-true, eq-eqb, lt-ltb, ltb-true, not-true}
-use Rattle.model.specs.Shared.{sameCode, sendCancelled, sendTimeOver, receiveCancelled, receiveTimeOver}
+use Rattle.model.specs.Codes.{sameCode, sendCancelled, sendTimeOver, receiveCancelled, receiveTimeOver}
 use Rattle.model.specs.Atomic.{Run, nothing, sending, receiving, Machine, Event, begins, cancels, ticks, rendezvous, aborts, runs, QueuedAt, acceptsIn, NoneAcceptable, CanAbort, Can, readyFor}
 use Rattle.model.specs.Linearization.{Entry, Allowed}
 use Rattle.model.proofs.Replay.{sendsNowTo, noneAcceptable, abortTest, canTest, allowedTest}

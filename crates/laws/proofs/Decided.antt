@@ -10,9 +10,13 @@ use borrow.Author.Tests.{eqb-true, eqb-false, ltb-true, ltb-false}
 use Rattle.model.specs.declared.Thread.{Thread}
 use Rattle.model.specs.declared.Table.{Table}
 use Rattle.model.specs.Answers.{held}
-use Rattle.model.specs.Shared.{receiveTimeOver, sendTimeOver, receiveCancelled, sendCancelled, nobody, hasReceive}
+use Rattle.model.specs.Codes.{receiveTimeOver, sendTimeOver, receiveCancelled, sendCancelled, nobody}
+use Rattle.model.specs.Operations.{hasReceive}
 use Rattle.model.specs.Lists.{update}
-use Rattle.model.specs.Threads.{Phase, idle, lock, check, copy, release, sleep, look, wake, unlock, unknown, phaseOf, at, lockFree, findSender, ready}
+use Rattle.model.specs.Phases.{Phase, idle, lock, check, copy, release, sleep, look, wake, unlock, unknown, phaseOf}
+use Rattle.model.specs.Threads.{at}
+use Rattle.model.specs.Locks.{lockFree}
+use Rattle.model.specs.Queues.{findSender, ready}
 use Rattle.model.specs.Step.{Action, stay, takeLock, abortSend, startCopy, toRelease, copyWord, finishCall, finishSend, freeTarget, retry, toIdle, abortReceive, takeSender, clearPoll, freeSender, otherIn, other, lookAt, decideIn, decide, ownAfter, otherAfter}
 use Rattle.model.proofs.Laws.{by}
 

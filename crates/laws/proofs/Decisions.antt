@@ -9,8 +9,11 @@ use lib.ListN.{List·getD-eq-default}
 use borrow.Author.Tests.{lt-ltb, le-ltb, eq-eqb, ne-eqb}
 use Rattle.model.specs.declared.Thread.{Thread}
 use Rattle.model.specs.Answers.{wants, asleep}
-use Rattle.model.specs.Shared.{receiveTimeOver, sendTimeOver, receiveCancelled, sendCancelled, nobody, hasReceive}
-use Rattle.model.specs.Threads.{Phase, idle, lock, check, copy, release, sleep, look, unknown, phases, phaseOf, phaseNumber, lockFree, findSender, ready}
+use Rattle.model.specs.Codes.{receiveTimeOver, sendTimeOver, receiveCancelled, sendCancelled, nobody}
+use Rattle.model.specs.Operations.{hasReceive}
+use Rattle.model.specs.Phases.{Phase, idle, lock, check, copy, release, sleep, look, unknown, phases, phaseOf, phaseNumber}
+use Rattle.model.specs.Locks.{lockFree}
+use Rattle.model.specs.Queues.{findSender, ready}
 use Rattle.model.specs.Step.{stay, takeLock, abortSend, startCopy, toRelease, copyWord, finishCall, finishSend, freeTarget, retry, toIdle, abortReceive, takeSender, other, lookAt, decideIn}
 use Rattle.model.proofs.Laws.{same?}
 use Rattle.model.proofs.Numbers.{phase-read}

@@ -9,7 +9,8 @@ use borrow.Author.Tests.{eqb-true}
 use Rattle.model.specs.declared.Thread.{Thread}
 use Rattle.model.specs.Lists.{allBelow}
 use Rattle.model.specs.WellFormed.{inPhase}
-use Rattle.model.specs.Threads.{Phase, idle, phaseOf, phaseNumber, lockHeldIn, lockHeld}
+use Rattle.model.specs.Phases.{Phase, idle, phaseOf, phaseNumber}
+use Rattle.model.specs.Locks.{lockHeldIn, lockHeld}
 use Rattle.model.proofs.Laws.{all-below-read}
 
 -- a number of a phase is the number of the phase that it stands for

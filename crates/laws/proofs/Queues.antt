@@ -10,7 +10,7 @@ use lib.Seq.{length-take-le, take-at, take-suc-set}
 use lib.Dec.{eqb}
 use Rattle.model.specs.declared.Thread.{Thread}
 use Rattle.model.specs.Lists.{occurs, without}
-use Rattle.model.specs.Threads.{senders, joined, departed}
+use Rattle.model.specs.Queues.{senders, joined, departed}
 use Rattle.model.specs.WellFormed.{sendsTo}
 use Rattle.laws.proofs.Lists.{length-one-less}
 

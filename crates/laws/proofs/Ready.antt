@@ -5,8 +5,8 @@ use Prim.Native.Nat.{ℕ}
 use borrow.Author.Tests.{not-true}
 use Rattle.model.specs.declared.Thread.{Thread}
 use Rattle.model.specs.Lists.{allOf}
-use Rattle.model.specs.Shared.{accepts}
-use Rattle.model.specs.Threads.{ready}
+use Rattle.model.specs.Operations.{accepts}
+use Rattle.model.specs.Queues.{ready}
 use Rattle.model.specs.Atomic.{Machine, acceptsIn, isReceiving, readyFor}
 use Rattle.model.proofs.Laws.{all-of-read}
 

@@ -10,11 +10,14 @@ use borrow.Author.Tests.{ltb-false, leb-false, le-leb, lt-ltb, eqb-true, eqb-fal
 use Rattle.model.specs.declared.Receive.{Receive}
 use Rattle.model.specs.declared.Receive.the-variants.{Absent, Open, Closed}
 use Rattle.model.specs.declared.Operation.{Operation}
-use Rattle.model.specs.Shared.{wordLimit, isTimeCode, hasReceive, receiveTime, closedOn, targetBeyond}
-use Rattle.model.specs.Threads.{idle, phaseOf, at, lockFree}
+use Rattle.model.specs.Operations.{wordLimit, hasReceive, receiveTime, closedOn, targetBeyond, closedBeyond}
+use Rattle.model.specs.Times.{isTimeCode}
+use Rattle.model.specs.Phases.{idle, phaseOf}
+use Rattle.model.specs.Threads.{at}
+use Rattle.model.specs.Locks.{lockFree}
 use Rattle.model.specs.WellFormed.{inPhase, sendInRange, receiveInRange, wellFormed}
 use Rattle.model.specs.Calls.{Call, begin, step, cancel, tick, State}
-use Rattle.model.specs.Refusals.{badSize, notWellFormed, noThread, badLength, lockOwned, notIdle, neitherPart, withItself, closedBeyond, noPartner, tooManyWords, badTime, rowsOf, refusal, outcomeRefusal, tableRows, placeRows, beginRows, laterRows}
+use Rattle.model.specs.Refusals.{badSize, notWellFormed, noThread, badLength, lockOwned, notIdle, neitherPart, withItself, noPartner, tooManyWords, badTime, rowsOf, refusal, outcomeRefusal, tableRows, placeRows, beginRows, laterRows}
 use Rattle.model.proofs.Laws.{implies-made, _and_, all-of-made}
 use Rattle.laws.proofs.Rows.{numbered, NoneHolds, none-holds}
 use Rattle.laws.proofs.Phases.{in-idle}

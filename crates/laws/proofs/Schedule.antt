@@ -10,7 +10,9 @@ use lib.Seq.{getD-take}
 use lib.Dec.{eqb}
 use borrow.Author.Tests.{eqb-true, ne-eqb}
 use Rattle.model.specs.Lists.{concat}
-use Rattle.model.specs.Schedule.{beginKind, recordLength, byte, kindByte, threadByte, wordBytes, front, lawful}
+use Rattle.model.specs.RecordBytes.{beginKind, recordLength, byte, kindByte, threadByte, lawful}
+use Rattle.model.specs.Encoding.{wordBytes}
+use Rattle.model.specs.Decoding.{front}
 use Rattle.model.proofs.Laws.{by, all-of-read}
 use Rattle.laws.proofs.Joined.{take-and-rest}
 

@@ -5,8 +5,8 @@ use mathlib.Core.Option.{none, some}
 use Prim.Native.Nat.{ℕ, _≤_}
 use Rattle.model.specs.declared.Thread.{Thread}
 use Rattle.model.specs.Lists.{occurs}
-use Rattle.model.specs.Shared.{accepts}
-use Rattle.model.specs.Threads.{senders, searchPlace, findSender}
+use Rattle.model.specs.Operations.{accepts}
+use Rattle.model.specs.Queues.{senders, searchPlace, findSender}
 use Rattle.laws.proofs.Lists.{found, none-found}
 
 module _ (h : Thread) (s : ℕ) where

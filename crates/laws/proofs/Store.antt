@@ -10,9 +10,9 @@ use lib.Dec.{ltb}
 use borrow.Author.Tests.{ltb-true, ltb-false}
 use Rattle.model.specs.declared.SendPart.{SendPart}
 use Rattle.model.specs.declared.Thread.{Thread}
-use Rattle.model.specs.Shared.{wordLimit, message}
-use Rattle.model.specs.Threads.{wordsAt, zeroed}
-use Rattle.model.specs.Step.{Action, stay, takeLock, abortSend, startCopy, toRelease, copyWord, finishCall, finishSend, freeTarget, retry, toIdle, abortReceive, takeSender, clearPoll, freeSender, wordCopied, storeAfter}
+use Rattle.model.specs.Operations.{wordLimit, message}
+use Rattle.model.specs.Store.{wordsAt, zeroed, wordCopied}
+use Rattle.model.specs.Step.{Action, stay, takeLock, abortSend, startCopy, toRelease, copyWord, finishCall, finishSend, freeTarget, retry, toIdle, abortReceive, takeSender, clearPoll, freeSender, storeAfter}
 use Rattle.laws.proofs.Lists.{take-up-to}
 use Rattle.model.proofs.Laws.{by}
 

@@ -7,7 +7,7 @@ use lib.ListN.{List·getD-eq-default}
 use lib.Dec.{eqb, leb, ltb}
 use borrow.Author.Tests.{ltb-true, ltb-false, leb-true, le-leb}
 use Rattle.model.specs.Lists.{allBelow}
-use Rattle.model.specs.Shared.{never, tickCounts, tickCount, isLeft, fall}
+use Rattle.model.specs.Times.{never, tickCounts, tickCount, isLeft, fall}
 use Rattle.model.proofs.Laws.{by, all-below-read}
 
 -- `left` may be the ticks of any time code

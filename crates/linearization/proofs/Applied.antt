@@ -8,12 +8,13 @@ use lib.ListN.{length, getElem?, take}
 use Rattle.model.specs.declared.Operation.{Operation}
 use Rattle.model.specs.Answers.{said}
 use Rattle.model.specs.Lists.{bit, occurs}
-use Rattle.model.specs.Shared.{running}
+use Rattle.model.specs.Codes.{running}
 use Rattle.model.specs.Threads.{newTable}
 use Rattle.model.specs.Promise.{state, view}
 use Rattle.model.specs.Atomic.{shows}
 use Rattle.model.specs.Linearization.{Observed, Trace, Entry, played, AtCall, Allowed, latest, EndsAt, HasEnded, pairs, fate, sendCompleted, receiveCompleted, BeginsAt, Among, Match}
-use Rattle.model.specs.Linearized.{linearization, callsOf}
+use Rattle.model.specs.Linearized.{linearization}
+use Rattle.model.proofs.Traces.{callsOf}
 use Rattle.linearization.proofs.Demand.{demand3}
 use Rattle.linearization.proofs.Corollaries.{only-linearization}
 use Rattle.linearization.proofs.Places.{PlacedAt, placed-at}

@@ -6,13 +6,14 @@ use Prim.Native.Nat.{ℕ, _*_, _≤_, _<_}
 use native.Mathlib.Omega.{arith}
 use lib.ListN.{length}
 use Rattle.model.specs.declared.Operation.{Operation}
-use Rattle.model.specs.Shared.{running, View}
+use Rattle.model.specs.Codes.{running, View}
 use Rattle.model.specs.Threads.{newTable}
 use Rattle.model.specs.Calls.{State}
 use Rattle.model.specs.Promise.{state, view}
 use Rattle.model.specs.Atomic.{shows}
 use Rattle.model.specs.Linearization.{Observed, Trace, Entry, played, HasEnded, fate, sendCompleted, receiveCompleted, BeginsAt, Linearizes}
-use Rattle.model.specs.Linearized.{entry, linearization, callsOf}
+use Rattle.model.specs.Linearized.{entry, linearization}
+use Rattle.model.proofs.Traces.{callsOf}
 use Rattle.pairing.proofs.Operations.{AllAllowed}
 use Rattle.pairing.proofs.Endings.{open-running}
 use Rattle.pairing.proofs.Exchange.{ReceivedOnce, SentOnce, send-received, receive-sent}

@@ -4,13 +4,14 @@ use mathlib.Core.List.{List, [], _∷_, reverseAux}
 use Prim.Native.Nat.{ℕ, _*_, _≤_, _<_}
 use lib.ListN.{length}
 use Rattle.model.specs.Answers.{Said}
-use Rattle.model.specs.Shared.{View}
+use Rattle.model.specs.Codes.{View}
 use Rattle.model.specs.Threads.{newTable}
 use Rattle.model.specs.Calls.{State}
 use Rattle.model.specs.Promise.{state, Promise, view}
 use Rattle.model.specs.Atomic.{AtomicThread, Machine, shows}
 use Rattle.model.specs.Linearization.{Observed, Trace, Entry, playEntry, played, AtCall, Follows, FollowsAll, Linearizes, Demand3}
-use Rattle.model.specs.Linearized.{entry, linearization, callsOf}
+use Rattle.model.specs.Linearized.{entry, linearization}
+use Rattle.model.proofs.Traces.{callsOf}
 use Rattle.pairing.proofs.Operations.{AllAllowed}
 use Rattle.pairing.proofs.Endings.{ending-begun, shown-ended}
 use Rattle.pairing.proofs.Pairing.{all-paired}

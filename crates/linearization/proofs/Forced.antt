@@ -10,7 +10,8 @@ use lib.Dec.{eqb}
 use lib.IntN.{ℤ, pos, negsuc}
 use borrow.Author.Tests.{ne-eqb}
 use Rattle.model.specs.Answers.{Said, refused, replied, said}
-use Rattle.model.specs.Shared.{running, nobody, View, hasReceive}
+use Rattle.model.specs.Codes.{running, nobody, View}
+use Rattle.model.specs.Operations.{hasReceive}
 use Rattle.model.specs.Calls.{Call, begin, step, cancel, tick}
 use Rattle.model.specs.Atomic.{Run, nothing, sending, receiving, AtomicThread, Machine, begins, cancels, ticks, rendezvous, aborts, runs, senderAfter, play, CanAbort, cancelledSending, lateSending, cancelledReceiving, lateReceiving, Can}
 use Rattle.model.specs.Linearization.{Observed, Entry, playEntry, played, AtStep, AtCall, Allowed, Follows, FollowsAll, Linearizes}

@@ -8,8 +8,9 @@ use lib.ListN.{replicate}
 use lib.IntN.{pos}
 use Rattle.model.specs.declared.Receive.the-variants.{Absent}
 use Rattle.model.specs.declared.Table.{Table}
-use Rattle.model.specs.Shared.{done, running, neverBegun, nobody, codeOnly}
-use Rattle.model.specs.Threads.{idle, check, copy, release, sleep, look, wake, unknown, newTable, edit, withFlags, entering, withOp, withLeft, withQueue, withOwner, withOutcome, withCopied, withWaking, polled, marked, withoutReceive}
+use Rattle.model.specs.Codes.{done, running, neverBegun, nobody, codeOnly}
+use Rattle.model.specs.Phases.{idle, check, copy, release, sleep, look, wake, unknown}
+use Rattle.model.specs.Threads.{newTable, edit, withFlags, entering, withOp, withLeft, withQueue, withOwner, withOutcome, withCopied, withWaking, polled, marked, withoutReceive}
 use Rattle.model.specs.WellFormed.{clauses, wellFormed}
 use Rattle.model.specs.Calls.{beginTable}
 use Rattle.model.specs.Examples.{sendTo, receiveOnly, openFor, closedFor, flags}

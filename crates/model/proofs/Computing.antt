@@ -1,8 +1,14 @@
 -- Names that open definitions, one for each file and one for all: a proof that says `unfolding computing` works a closed case out.
 use Prim.Native.Nat.{ℕ}
 use Rattle.model.specs.Lists
-use Rattle.model.specs.Shared
+use Rattle.model.specs.Codes
+use Rattle.model.specs.Times
+use Rattle.model.specs.Operations
+use Rattle.model.specs.Phases
 use Rattle.model.specs.Threads
+use Rattle.model.specs.Queues
+use Rattle.model.specs.Locks
+use Rattle.model.specs.Store
 use Rattle.model.specs.WellFormed
 use Rattle.model.specs.Step
 use Rattle.model.specs.Calls
@@ -11,6 +17,9 @@ use Rattle.model.specs.Promise
 use Rattle.model.specs.Atomic
 use Rattle.model.specs.Linearization
 use Rattle.model.specs.Linearized
+use Rattle.model.specs.RecordBytes
+use Rattle.model.specs.Decoding
+use Rattle.model.specs.Encoding
 use Rattle.model.specs.Schedule
 use Rattle.model.specs.Bondtrace
 use Rattle.model.specs.Examples
@@ -21,19 +30,19 @@ unfolding Lists.implies Lists.allOf Lists.allBelow Lists.occurs Lists.without Li
 lists = 0
 
 unfoldable pub shared : ℕ
-unfolding Shared.isFailure Shared.isTimeCode Shared.isLeft Shared.tickCount Shared.fall Shared.targetBeyond Shared.message
+unfolding Codes.isFailure Times.isTimeCode Times.isLeft Times.tickCount Times.fall Operations.targetBeyond Operations.message
 shared = 0
 
 unfoldable pub threads : ℕ
-unfolding Threads.phaseOf Threads.noOperation Threads.newThread Threads.newTable Threads.at Threads.put Threads.edit Threads.editBelow Threads.senders Threads.joined Threads.departed Threads.lockFree Threads.searchPlace Threads.findSender Threads.ready Threads.lockHeld Threads.wordsAt Threads.zeroed
+unfolding Phases.phaseOf Phases.isOneOf Threads.noOperation Threads.newThread Threads.newTable Threads.at Threads.put Threads.edit Threads.editBelow Queues.senders Queues.joined Queues.departed Locks.lockFree Queues.searchPlace Queues.findSender Queues.ready Locks.lockHeld Store.wordCopied Store.wordsAt Store.zeroed
 threads = 0
 
 unfoldable pub clauses : ℕ
-unfolding WellFormed.sizeInRange WellFormed.inPhase WellFormed.isCode WellFormed.nobodyOrBelow WellFormed.sendInRange WellFormed.receiveInRange WellFormed.numbersInRange WellFormed.ipcWithRunning WellFormed.bareUnlessDone WellFormed.notWithItself WellFormed.sendAndMarkWithIpc WellFormed.pollWithSend WellFormed.receivingWithPart WellFormed.ipcWithoutSend WellFormed.idleWithoutFlags WellFormed.releaseHasTarget WellFormed.receiversSendClear WellFormed.sendersSendSet WellFormed.copiesToReady WellFormed.sendsTo WellFormed.ownerOf WellFormed.chain WellFormed.each WellFormed.allUnder WellFormed.queueTest WellFormed.ownerTest WellFormed.chainTest WellFormed.clauses WellFormed.wellFormed
+unfolding WellFormed.sizeInRange WellFormed.inPhase WellFormed.isCode WellFormed.nobodyOrBelow WellFormed.sendInRange WellFormed.receiveInRange WellFormed.numbersInRange WellFormed.ipcWithRunning WellFormed.bareUnlessDone WellFormed.notWithItself WellFormed.sendAndMarkWithIpc WellFormed.pollWithSend WellFormed.receivingWithPart WellFormed.ipcWithoutSend WellFormed.idleWithoutFlags WellFormed.releaseHasTarget WellFormed.receiversSendClear WellFormed.sendersSendSet WellFormed.copiesToReady WellFormed.sendsTo WellFormed.within WellFormed.ownerOf WellFormed.chain WellFormed.each WellFormed.allUnder WellFormed.queueTest WellFormed.ownerTest WellFormed.chainTest WellFormed.clauses WellFormed.wellFormed
 clauses = 0
 
 unfoldable pub steps : ℕ
-unfolding Step.other Step.lookAt Step.decideIn Step.decide Step.replyOf Step.ownAfter Step.received Step.otherAfter Step.act Step.wordCopied Step.storeAfter
+unfolding Step.other Step.lookAt Step.decideIn Step.decide Step.replyOf Step.ownAfter Step.received Step.otherAfter Step.act Step.storeAfter
 steps = 0
 
 unfoldable pub calls : ℕ
@@ -65,7 +74,7 @@ unfolding Linearized.eventOf Linearized.acceptedEntry Linearized.entry Linearize
 orders = 0
 
 unfoldable pub bytes : ℕ
-unfolding Schedule.recordLength Schedule.wordAt Schedule.sendBit Schedule.receiveBit Schedule.openBit Schedule.lawfulBegin Schedule.lawful Schedule.operationOf Schedule.recordOf Schedule.front Schedule.unreadable Schedule.decodeRefusal Schedule.decodeAnswer Schedule.decode Schedule.wordBytes Schedule.partsOf Schedule.operationBytes Schedule.encode Schedule.allZero Schedule.lawfulRecord Schedule.unwritable Schedule.encodeRefusal Schedule.encodeAnswer Schedule.encodeBuffer Schedule.readFrom Schedule.decodeAll Schedule.encodeAll
+unfolding RecordBytes.recordLength RecordBytes.wordAt RecordBytes.sendBit RecordBytes.receiveBit RecordBytes.openBit RecordBytes.lawfulBegin RecordBytes.lawful Decoding.operationOf Decoding.recordOf Decoding.front Decoding.unreadable Decoding.decodeRefusal Decoding.decodeAnswer Decoding.decode Encoding.wordBytes Encoding.partsOf Encoding.operationBytes Encoding.encode Encoding.allZero Encoding.lawfulRecord Encoding.unwritable Encoding.encodeRefusal Encoding.encodeAnswer Encoding.encodeBuffer Schedule.readFrom Schedule.decodeAll Schedule.encodeAll
 bytes = 0
 
 unfoldable pub texts : ℕ

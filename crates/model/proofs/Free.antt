@@ -10,14 +10,17 @@ use lib.IntN.{ℤ}
 use Rattle.model.specs.declared.Operation.{Operation}
 use Rattle.model.specs.declared.Thread.{Thread}
 use Rattle.model.specs.declared.Table.{Table}
-use Rattle.model.specs.Shared.{noReceiver, codeOnly, targetBeyond}
+use Rattle.model.specs.Codes.{noReceiver, codeOnly}
+use Rattle.model.specs.Operations.{targetBeyond}
 use Rattle.model.specs.Lists.{without}
-use Rattle.model.specs.Threads.{Phase, noOperation, newThread, newTable, edit, ended, withoutReceive, senders, joined, departed}
+use Rattle.model.specs.Phases.{Phase}
+use Rattle.model.specs.Threads.{noOperation, newThread, newTable, edit, ended, withoutReceive}
+use Rattle.model.specs.Queues.{senders, joined, departed}
 use Rattle.model.specs.Step.{abortSend, finishCall, finishSend, abortReceive, ownAfter, received}
 use Rattle.model.specs.Calls.{begun, beginTable}
 use Rattle.model.specs.Refusals.{unless, makeRefusal}
 use Rattle.model.specs.Promise.{madeTable}
-use Rattle.model.specs.Schedule.{decodeRefusal, decode}
+use Rattle.model.specs.Decoding.{decodeRefusal, decode}
 
 -- what an ending leaves as it was: the operation, `left`, and the two numbers that belong to other phases
 pub record Rest : Type 0 where

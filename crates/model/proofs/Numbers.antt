@@ -5,8 +5,8 @@ use mathlib.Core.List.{[], _∷_, map}
 use Prim.Native.Nat.{ℕ, _≤_}
 use lib.Dec.{leb}
 use borrow.Author.Tests.{leb-true, le-leb}
-use Rattle.model.specs.Shared.{codes, isFailure}
-use Rattle.model.specs.Threads.{Phase, idle, lock, check, copy, release, sleep, look, wake, unlock, unknown, phaseOf, phaseNumber}
+use Rattle.model.specs.Codes.{codes, isFailure}
+use Rattle.model.specs.Phases.{Phase, idle, lock, check, copy, release, sleep, look, wake, unlock, unknown, phaseOf, phaseNumber}
 use Rattle.model.specs.WellFormed.{sizeInRange}
 use Rattle.model.proofs.Laws.{and-left, and-right, and-made}
 

@@ -8,7 +8,7 @@ use lib.Dec.{eqb, ltb}
 use lib.IntN.{ℤ}
 use Rattle.model.specs.Answers.{Reply, accepted, marked, nothingToCancel, moved, idle, held, wants, asleep, Said, refused, replied}
 use Rattle.model.specs.Lists.{implies, allOf, allBelow}
-use Rattle.model.specs.Shared.{receiveTimeOver, sendTimeOver, receiveCancelled, sendCancelled, sameCode, View}
+use Rattle.model.specs.Codes.{receiveTimeOver, sendTimeOver, receiveCancelled, sendCancelled, sameCode, View}
 use Rattle.model.specs.WellFormed.{wellFormed}
 use Rattle.model.specs.Calls.{Call, State}
 use Rattle.model.specs.Promise.{answer, next, view}

@@ -10,9 +10,11 @@ use borrow.Author.Tests.{ltb-true, ltb-false, lt-ltb, le-ltb, eqb-true, eqb-fals
 use Rattle.model.specs.declared.Thread.{Thread}
 use Rattle.model.specs.declared.Table.{Table}
 use Rattle.model.specs.Lists.{bit, occurs}
-use Rattle.model.specs.Shared.{nobody}
-use Rattle.model.specs.Threads.{at, senders, lockHeld}
-use Rattle.model.specs.WellFormed.{sizeInRange, sendsTo, ownerOf, chain, Each, WellFormed, each, allUnder, queueTest, ownerTest, chainTest, clauses, wellFormed}
+use Rattle.model.specs.Codes.{nobody}
+use Rattle.model.specs.Threads.{at}
+use Rattle.model.specs.Queues.{senders}
+use Rattle.model.specs.Locks.{lockHeld}
+use Rattle.model.specs.WellFormed.{sizeInRange, sendsTo, within, ownerOf, chain, Each, WellFormed, each, allUnder, queueTest, ownerTest, chainTest, clauses, wellFormed}
 use Rattle.model.proofs.Laws.{by, and-left, and-right, and-made, equal-alike-read, equal-alike-made, _and_, all-of-read, all-of-made, all-below-read, all-below-made, occurs-first}
 use Rattle.model.proofs.Numbers.{size-read}
 use Rattle.model.proofs.Chains.{chains-long}
@@ -76,7 +78,7 @@ module _ (t : Table) where
 
   -- only a thread of the table has a thread of the table for its owner
   owned-in : t .n ≤ nobody → (r : ℕ) → ownerOf t r < t .n → r < t .n
-  unfolding ownerOf
+  unfolding ownerOf within
   owned-in few r h = by (ltb r (t .n)) (ltb-true r (t .n)) (λ e. absurd (let l : nobody < t .n = rw e at h in omega arith))
 
 -- ---- the whole table

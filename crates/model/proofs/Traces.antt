@@ -1,11 +1,14 @@
 -- Every list of calls has its trace, so the statement about traces speaks of every list of calls.
 use mathlib.Core.Path.{_≡_, refl, ap}
-use mathlib.Core.List.{List, [], _∷_}
+use mathlib.Core.List.{List, [], _∷_, map}
 use Rattle.model.specs.Calls.{Call, State}
 use Rattle.model.specs.Promise.{answer, next}
 use Rattle.model.specs.Linearization.{Observed, Trace}
-use Rattle.model.specs.Linearized.{callsOf}
 use Rattle.model.proofs.Answers.{answering, said-answering}
+
+-- the calls of a trace
+abbrev pub callsOf : List Observed → List Call
+callsOf trace = map (λ c. c .call) trace
 
 -- the calls, each with what it answers and leaves
 unfoldable pub traceOf : State → List Call → List Observed

@@ -8,7 +8,9 @@ use Rattle.model.specs.declared.Receive.{Receive}
 use Rattle.model.specs.declared.Operation.{Operation}
 use Rattle.model.specs.declared.Outcome.{Outcome}
 use Rattle.model.specs.Lists.{allOf, update}
-use Rattle.model.specs.Shared.{done, running, neverBegun, noReceiver, receiveTimeOver, sendTimeOver, receiveCancelled, sendCancelled, codeOnly, targetBeyond, View, tickCount, fall, hasReceive, receiveTime, accepts, firstTime, message}
+use Rattle.model.specs.Codes.{done, running, neverBegun, noReceiver, receiveTimeOver, sendTimeOver, receiveCancelled, sendCancelled, codeOnly, View}
+use Rattle.model.specs.Operations.{targetBeyond, hasReceive, receiveTime, accepts, firstTime, message}
+use Rattle.model.specs.Times.{tickCount, fall}
 
 -- "a running operation, sending or receiving, or none"
 pub data Run : Type 0 where

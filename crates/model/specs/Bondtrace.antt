@@ -14,7 +14,8 @@ use Rattle.model.specs.Threads.{newTable}
 use Rattle.model.specs.Calls.{Call, begin, step, cancel, tick, State}
 use Rattle.model.specs.Refusals.{unless, refusal, makeRefusal}
 use Rattle.model.specs.Promise.{state, next, view}
-use Rattle.model.specs.Schedule.{beginKind, stepKind, cancelKind, Fault, decodeAll}
+use Rattle.model.specs.RecordBytes.{beginKind, stepKind, cancelKind}
+use Rattle.model.specs.Schedule.{Fault, decodeAll}
 
 -- ---- text
 -- a text's characters as bytes

@@ -7,8 +7,13 @@ use Rattle.model.specs.declared.Operation.{Operation}
 use Rattle.model.specs.declared.Thread.{Thread}
 use Rattle.model.specs.declared.Table.{Table}
 use Rattle.model.specs.Answers.{Reply, accepted, nothingToCancel}
-use Rattle.model.specs.Shared.{running, noReceiver, codeOnly, targetBeyond, tickCount, fall, hasReceive, firstTime}
-use Rattle.model.specs.Threads.{Phase, lock, look, at, edit, editBelow, withFlags, entering, withOp, withLeft, withOutcome, marked, ended, joined, zeroed}
+use Rattle.model.specs.Codes.{running, noReceiver, codeOnly}
+use Rattle.model.specs.Operations.{targetBeyond, hasReceive, firstTime}
+use Rattle.model.specs.Times.{tickCount, fall}
+use Rattle.model.specs.Phases.{Phase, lock, look}
+use Rattle.model.specs.Threads.{at, edit, editBelow, withFlags, entering, withOp, withLeft, withOutcome, marked, ended}
+use Rattle.model.specs.Queues.{joined}
+use Rattle.model.specs.Store.{zeroed}
 use Rattle.model.specs.Step.{decide, replyOf, act, storeAfter}
 
 -- ---- begin

@@ -13,8 +13,10 @@ use Rattle.model.specs.declared.Outcome.{Outcome}
 use Rattle.model.specs.declared.Thread.{Thread}
 use Rattle.model.specs.Answers.{Reply, accepted, marked, moved, held, asleep, Said, refused, replied}
 use Rattle.model.specs.Lists.{upTo}
-use Rattle.model.specs.Shared.{done, running, neverBegun, noReceiver, receiveTimeOver, sendTimeOver, receiveCancelled, sendCancelled, nobody, codeOnly}
-use Rattle.model.specs.Threads.{Phase, idle, lock, check, release, look, phaseOf, newTable, noFlags, at, senders}
+use Rattle.model.specs.Codes.{done, running, neverBegun, noReceiver, receiveTimeOver, sendTimeOver, receiveCancelled, sendCancelled, nobody, codeOnly}
+use Rattle.model.specs.Phases.{Phase, idle, lock, check, release, look, phaseOf}
+use Rattle.model.specs.Threads.{newTable, noFlags, at}
+use Rattle.model.specs.Queues.{senders}
 use Rattle.model.specs.Calls.{Call, begin, step, cancel, tick, State}
 use Rattle.model.specs.Promise.{state, answer, next}
 use Rattle.model.specs.Atomic.{begins, cancels, ticks, rendezvous, aborts}

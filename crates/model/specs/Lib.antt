@@ -1,7 +1,13 @@
 pub mod Lists
-pub mod Shared
+pub mod Codes
+pub mod Times
+pub mod Operations
 pub mod Answers
+pub mod Phases
 pub mod Threads
+pub mod Queues
+pub mod Locks
+pub mod Store
 pub mod WellFormed
 pub mod Step
 pub mod Calls
@@ -10,6 +16,9 @@ pub mod Promise
 pub mod Atomic
 pub mod Linearization
 pub mod Linearized
+pub mod RecordBytes
+pub mod Decoding
+pub mod Encoding
 pub mod Schedule
 pub mod Bondtrace
 pub mod Examples

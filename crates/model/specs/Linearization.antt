@@ -11,7 +11,8 @@ use Rattle.model.specs.declared.Operation.{Operation}
 use Rattle.model.specs.declared.Answer.{Answer}
 use Rattle.model.specs.Answers.{Reply, accepted, marked, nothingToCancel, Said, refused, replied, said}
 use Rattle.model.specs.Lists.{bit, occurs}
-use Rattle.model.specs.Shared.{done, running, receiveTimeOver, receiveCancelled, sameCode, hasReceive}
+use Rattle.model.specs.Codes.{done, running, receiveTimeOver, receiveCancelled, sameCode}
+use Rattle.model.specs.Operations.{hasReceive}
 use Rattle.model.specs.Threads.{newTable}
 use Rattle.model.specs.Calls.{Call, begin, step, cancel, tick, State}
 use Rattle.model.specs.Promise.{Promise, state, view}

@@ -1,6 +1,6 @@
 -- The linearization of a trace as a function: a rendezvous stands at the step that finishes a copy, -6 and -4 at check, -5 and -3 at look.
 use mathlib.Core.Option.{none, some}
-use mathlib.Core.List.{List, [], _∷_, map}
+use mathlib.Core.List.{List, [], _∷_}
 use Prim.Native.Nat.{ℕ}
 use Rattle.model.specs.declared.Thread.{Thread}
 use Rattle.model.specs.Threads.{at}
@@ -9,7 +9,7 @@ use Rattle.model.specs.Calls.{Call, begin, step, cancel, tick, State}
 use Rattle.model.specs.Refusals.{unless, refusal}
 use Rattle.model.specs.Promise.{next}
 use Rattle.model.specs.Atomic.{begins, cancels, ticks, rendezvous, aborts}
-use Rattle.model.specs.Linearization.{Observed, Entry}
+use Rattle.model.specs.Linearization.{Entry}
 
 -- the event of an action of thread x, which was h
 unfoldable pub eventOf : Action → ℕ → Thread → Entry
@@ -44,7 +44,3 @@ entry c s = unless (refusal c s) (λ g. none) (acceptedEntry c s)
 unfoldable pub linearization : State → List Call → List Entry
 linearization s [] = []
 linearization s (c ∷ cs) = let after = next c s in entry c s ∷ linearization after cs
-
--- the calls of a trace
-abbrev pub callsOf : List Observed → List Call
-callsOf trace = map (λ c. c .call) trace

@@ -8,8 +8,9 @@ use Rattle.model.specs.declared.Table.{Table}
 use Rattle.model.specs.declared.Answer.{Answer}
 use Rattle.model.specs.Lists.{upTo}
 use Rattle.model.specs.Answers.{accepted, Said, refused, replied, said, SaidOutcome, shown}
-use Rattle.model.specs.Shared.{View}
-use Rattle.model.specs.Threads.{newTable, at, wordsAt}
+use Rattle.model.specs.Codes.{View}
+use Rattle.model.specs.Threads.{newTable, at}
+use Rattle.model.specs.Store.{wordsAt}
 use Rattle.model.specs.Calls.{Call, State, acceptedReply, acceptedState}
 use Rattle.model.specs.Refusals.{unless, refusal, makeRefusal, outcomeRefusal, reportRefusal}
 

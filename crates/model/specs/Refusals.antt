@@ -1,15 +1,16 @@
 -- Document 01, "What a refused call returns": the rows of its table, and for each call those that concern it, in the order of checking.
-use mathlib.Core.Bool.{Bool, false, not, cond, _&&_, _||_}
+use mathlib.Core.Bool.{Bool, not, cond, _&&_, _||_}
 use mathlib.Core.List.{List, [], _∷_, _++_}
 use Prim.Native.Nat.{ℕ, zero, suc, _*_}
 use lib.ListN.{length}
 use lib.Dec.{eqb, leb, ltb}
-use Rattle.model.specs.declared.Receive.{Receive}
-use Rattle.model.specs.declared.Receive.the-variants.{Absent, Open, Closed}
 use Rattle.model.specs.declared.Operation.{Operation}
 use Rattle.model.specs.declared.Table.{Table}
-use Rattle.model.specs.Shared.{wordLimit, isTimeCode, hasReceive, receiveTime, closedOn}
-use Rattle.model.specs.Threads.{idle, at, lockFree}
+use Rattle.model.specs.Operations.{closedBeyond, wordLimit, hasReceive, receiveTime, closedOn}
+use Rattle.model.specs.Times.{isTimeCode}
+use Rattle.model.specs.Phases.{idle}
+use Rattle.model.specs.Threads.{at}
+use Rattle.model.specs.Locks.{lockFree}
 use Rattle.model.specs.WellFormed.{sizeInRange, inPhase, wellFormed}
 use Rattle.model.specs.Calls.{Call, begin, step, cancel, tick, State}
 
@@ -61,12 +62,6 @@ unfoldable pub withItself : ℕ → Operation → Row
 withItself x o = record { when = o .send .present && eqb (o .send .target) x || closedOn (o .receive) x; number = 7 }
 
 -- "closed partner is N or more"
-abbrev pub closedBeyond : ℕ → Receive → Bool
-closedBeyond n Absent = false
-closedBeyond n (Open w) = false
-closedBeyond n (Closed w) = leb n (w .partner)
-
--- the row of that test
 unfoldable pub noPartner : Table → Operation → Row
 noPartner t o = record { when = closedBeyond (t .n) (o .receive); number = 8 }
 

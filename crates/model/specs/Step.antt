@@ -2,15 +2,20 @@
 use mathlib.Core.Bool.{true, false, not, cond, _||_}
 use mathlib.Core.Option.{Option, none, some, Option·getD}
 use mathlib.Core.List.{List}
-use Prim.Native.Nat.{ℕ, _+_, _*_}
-use lib.ListN.{getD, set}
+use Prim.Native.Nat.{ℕ, _+_}
 use lib.Dec.{eqb, ltb}
 use lib.IntN.{ℤ}
 use Rattle.model.specs.declared.Thread.{Thread}
 use Rattle.model.specs.declared.Table.{Table}
 use Rattle.model.specs.Answers.{Reply, moved, held, wants, asleep}
-use Rattle.model.specs.Shared.{done, receiveTimeOver, sendTimeOver, receiveCancelled, sendCancelled, nobody, codeOnly, tickCount, hasReceive, receiveTime}
-use Rattle.model.specs.Threads.{Phase, idle, lock, check, copy, release, sleep, look, wake, unlock, unknown, phaseOf, at, put, entering, withLeft, withOwner, withCopied, withWaking, polled, sent, ended, withoutReceive, departed, lockFree, findSender, ready}
+use Rattle.model.specs.Codes.{done, receiveTimeOver, sendTimeOver, receiveCancelled, sendCancelled, nobody, codeOnly}
+use Rattle.model.specs.Times.{tickCount}
+use Rattle.model.specs.Operations.{hasReceive, receiveTime}
+use Rattle.model.specs.Phases.{Phase, idle, lock, check, copy, release, sleep, look, wake, unlock, unknown, phaseOf}
+use Rattle.model.specs.Threads.{at, put, entering, withLeft, withOwner, withCopied, withWaking, polled, sent, ended, withoutReceive}
+use Rattle.model.specs.Queues.{departed, findSender, ready}
+use Rattle.model.specs.Locks.{lockFree}
+use Rattle.model.specs.Store.{wordCopied}
 
 -- what a step does, once its tests are passed
 pub data Action : Type 0 where
@@ -153,10 +158,6 @@ otherAfter freeSender x h r = withOwner nobody r
 -- the table after thread x's action
 unfoldable pub act : Action → ℕ → Table → Table
 act a x t = let h = at t x in put x (ownAfter a h) (put (other h) (otherAfter a x h (at t (other h))) t)
-
--- copying sets the next word of the target's slice of the store
-unfoldable pub wordCopied : Thread → List ℕ → List ℕ
-wordCopied h store = set store (8 * (h .op .send .target) + h .copied) (getD (h .op .send .words) (h .copied) 0)
 
 -- the store after the action of a thread that was h: "a delivery writes into that part only"
 unfoldable pub storeAfter : Action → Thread → List ℕ → List ℕ

@@ -1,47 +1,18 @@
--- Document 01, "The table": phases, a new table, reading and changing a thread, queues, ready, and the word store.
-use mathlib.Core.Bool.{Bool, true, false, not}
-use mathlib.Core.Option.{Option}
-use mathlib.Core.List.{List, [], _∷_, _++_}
-use Prim.Native.Nat.{ℕ, zero, suc, _+_, _-_, _*_}
-use lib.ListN.{getD, getElem?, set, take, drop, replicate}
-use lib.Seq.{sets}
-use lib.Dec.{eqb}
+-- Document 01, "The table": a new table, and how a thread is read and changed.
+use mathlib.Core.Bool.{Bool, true, false}
+use mathlib.Core.List.{List, []}
+use Prim.Native.Nat.{ℕ, zero, suc}
+use lib.ListN.{getD, set, replicate}
 use lib.IntN.{pos}
-use Rattle.model.specs.declared.Flags.{Flags}
 use Rattle.model.specs.declared.Receive.the-variants.{Absent}
 use Rattle.model.specs.declared.Operation.{Operation}
-use Rattle.model.specs.declared.Queue.{Queue}
 use Rattle.model.specs.declared.Outcome.{Outcome}
+use Rattle.model.specs.declared.Flags.{Flags}
+use Rattle.model.specs.declared.Queue.{Queue}
 use Rattle.model.specs.declared.Thread.{Thread}
 use Rattle.model.specs.declared.Table.{Table}
-use Rattle.model.specs.Lists.{allOf, without, placeWhere}
-use Rattle.model.specs.Shared.{neverBegun, nobody, codeOnly, accepts}
-
--- ---- phases
--- the nine phases, and one for every other number
-pub data Phase : Type 0 where
-  idle lock check copy release sleep look wake unlock unknown : Phase
-
--- the phases in the order of their numbers, 0 to 8
-abbrev pub phases : List Phase
-phases = idle ∷ lock ∷ check ∷ copy ∷ release ∷ sleep ∷ look ∷ wake ∷ unlock ∷ []
-
--- the phase that a number stands for
-unfoldable pub phaseOf : ℕ → Phase
-phaseOf number = getD phases number unknown
-
--- the number that a phase has in a thread
-abbrev pub phaseNumber : Phase → ℕ
-phaseNumber idle = 0
-phaseNumber lock = 1
-phaseNumber check = 2
-phaseNumber copy = 3
-phaseNumber release = 4
-phaseNumber sleep = 5
-phaseNumber look = 6
-phaseNumber wake = 7
-phaseNumber unlock = 8
-phaseNumber unknown = 9
+use Rattle.model.specs.Codes.{neverBegun, nobody, codeOnly}
+use Rattle.model.specs.Phases.{Phase, phaseNumber}
 
 -- ---- a new table
 -- "no flag"
@@ -89,9 +60,13 @@ zeroThread = record {
 unfoldable pub at : Table → ℕ → Thread
 at t x = getD (t .threads) x zeroThread
 
+-- a table with other threads
+abbrev pub withThreads : List Thread → Table → Table
+withThreads v t = record { n = t .n; threads = v }
+
 -- the table with h for its thread x
 unfoldable pub put : ℕ → Thread → Table → Table
-put x h t = record { n = t .n; threads = set (t .threads) x h }
+put x h t = withThreads (set (t .threads) x h) t
 
 -- the table with f done to thread x
 unfoldable pub edit : ℕ → (Thread → Thread) → Table → Table
@@ -157,58 +132,3 @@ ended u h = withFlags noFlags (withOutcome u h)
 -- the receive part dropped
 abbrev pub withoutReceive : Thread → Thread
 withoutReceive h = withOp (record { send = h .op .send; receive = Absent }) h
-
--- ---- queues, locks and readiness
--- the waiting senders, the earliest first
-unfoldable pub senders : Thread → List ℕ
-senders h = take (h .queue .len) (h .queue .items)
-
--- s at the end of the queue
-unfoldable pub joined : ℕ → Thread → Thread
-joined s h = withQueue (record { items = set (h .queue .items) (h .queue .len) s; len = h .queue .len + 1 }) h
-
--- s gone from the queue, those behind it moved up
-unfoldable pub departed : ℕ → Thread → Thread
-departed s h = withQueue (record { items = without s (senders h) ++ drop (h .queue .len - 1) (h .queue .items); len = h .queue .len - 1 }) h
-
--- nobody owns the thread's lock
-unfoldable pub lockFree : Thread → Bool
-lockFree h = eqb (h .owner) nobody
-
--- the place in the queue where the search stops: at the first acceptable sender, or past the last
-unfoldable pub searchPlace : Thread → ℕ
-searchPlace h = placeWhere (accepts (h .op .receive)) (senders h)
-
--- "the first acceptable sender in the queue"
-unfoldable pub findSender : Thread → Option ℕ
-findSender h = getElem? (senders h) (searchPlace h)
-
--- document 01's "ready" for s: "`ipc` and `receiving` set, `send` and `mark` clear, open or closed on" s
-unfoldable pub ready : Thread → ℕ → Bool
-ready h s = allOf (h .flags .ipc ∷ h .flags .receiving ∷ not (h .flags .send) ∷ not (h .flags .mark) ∷ accepts (h .op .receive) s ∷ [])
-
--- whose lock a thread holds in a phase: "check, copy and release hold the target's lock; wake and unlock hold that of the sender being woken; a thread holds no other"
-abbrev pub lockHeldIn : Phase → ℕ → ℕ → ℕ
-lockHeldIn idle target waking = nobody
-lockHeldIn lock target waking = nobody
-lockHeldIn check target waking = target
-lockHeldIn copy target waking = target
-lockHeldIn release target waking = target
-lockHeldIn sleep target waking = nobody
-lockHeldIn look target waking = nobody
-lockHeldIn wake target waking = waking
-lockHeldIn unlock target waking = waking
-lockHeldIn unknown target waking = nobody
-
--- the same by the thread's own phase
-unfoldable pub lockHeld : Thread → ℕ
-lockHeld h = lockHeldIn (phaseOf (h .phase)) (h .op .send .target) (h .waking)
-
--- ---- the word store
--- "the eight words of thread t start at place 8×t"
-unfoldable pub wordsAt : List ℕ → ℕ → List ℕ
-wordsAt store x = take 8 (drop (8 * x) store)
-
--- the store with thread x's eight words zero
-unfoldable pub zeroed : ℕ → List ℕ → List ℕ
-zeroed x store = sets store (8 * x) (replicate 8 0)

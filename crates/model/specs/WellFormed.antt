@@ -14,8 +14,13 @@ use Rattle.model.specs.declared.Receive.the-variants.{Absent, Open, Clos
 use Rattle.model.specs.declared.Thread.{Thread}
 use Rattle.model.specs.declared.Table.{Table}
 use Rattle.model.specs.Lists.{implies, allOf, allBelow, bit, occurs}
-use Rattle.model.specs.Shared.{done, running, codes, sameCode, nobody, wordLimit, isTimeCode, isLeft, hasReceive, closedOn}
-use Rattle.model.specs.Threads.{Phase, idle, lock, check, copy, release, sleep, look, wake, unlock, phaseNumber, at, senders, lockHeld, ready}
+use Rattle.model.specs.Operations.{closedBeyond, wordLimit, hasReceive, closedOn}
+use Rattle.model.specs.Codes.{done, running, codes, sameCode, nobody}
+use Rattle.model.specs.Times.{isTimeCode, isLeft}
+use Rattle.model.specs.Phases.{isOneOf, Phase, idle, lock, check, copy, release, sleep, look, wake, unlock}
+use Rattle.model.specs.Threads.{at}
+use Rattle.model.specs.Queues.{senders, ready}
+use Rattle.model.specs.Locks.{lockHeld}
 
 -- ---- the clauses of one thread, each a test of thread x, which is h, in a table of n threads
 -- "N is 1 to 32"
@@ -24,8 +29,7 @@ sizeInRange n = leb 1 n && leb n 32
 
 -- the thread is in one of these phases
 unfoldable pub inPhase : List Phase → Thread → Bool
-inPhase [] h = false
-inPhase (p ∷ ps) h = eqb (h .phase) (phaseNumber p) || inPhase ps h
+inPhase ps h = isOneOf ps (h .phase)
 
 -- a code of document 01
 unfoldable pub isCode : List ℤ → ℤ → Bool
@@ -44,7 +48,7 @@ sendInRange n part = implies (part .present) (allOf (ltb (part .target) n ∷ le
 unfoldable pub receiveInRange : ℕ → Receive → Bool
 receiveInRange n Absent = true
 receiveInRange n (Open w) = isTimeCode (w .time)
-receiveInRange n (Closed w) = allOf (isTimeCode (w .time) ∷ ltb (w .partner) n ∷ [])
+receiveInRange n (Closed w) = allOf (isTimeCode (w .time) ∷ not (closedBeyond n (Closed w)) ∷ [])
 
 -- "every number in use is in range": of a running operation all numbers of its parts are in use, and `left`; of an ended one only the
 -- target that release still frees (`releaseHasTarget`); a thread that sends, or frees its target's lock, has a send part
@@ -124,9 +128,13 @@ copiesToReady t x h = implies (inPhase (copy ∷ []) h) (ready (at t (h .op .sen
 unfoldable pub sendsTo : Thread → ℕ → Bool
 sendsTo h r = h .flags .send && eqb (h .op .send .target) r
 
--- the owner of thread r's lock; of no thread, nobody
+-- the owner of a lock, by the owner of each; of no thread's, nobody
+unfoldable pub within : ℕ → (ℕ → ℕ) → ℕ → ℕ
+within n owner r = cond (ltb r n) (owner r) nobody
+
+-- the owner of thread r's lock
 unfoldable pub ownerOf : Table → ℕ → ℕ
-ownerOf t r = cond (ltb r (t .n)) (at t r .owner) nobody
+ownerOf t r = within (t .n) (λ x. at t x .owner) r
 
 -- the owner of the owner of .. r, k times over
 unfoldable pub chain : (ℕ → ℕ) → ℕ → ℕ → ℕ

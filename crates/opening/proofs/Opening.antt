@@ -6,7 +6,8 @@ use mathlib.Core.List.{List}
 use Prim.Native.Nat.{ℕ, suc, zero, _*_}
 use native.Mathlib.Omega.{arith}
 use Rattle.model.specs.Refusals.{unless, makeRefusal}
-use Rattle.model.specs.Schedule.{threadByte, front, lawful}
+use Rattle.model.specs.RecordBytes.{threadByte, lawful}
+use Rattle.model.specs.Decoding.{front}
 use Rattle.laws.proofs.Lists.{cond-true, cond-false}
 use Rattle.invariant.proofs.New.{new-size}
 use Rattle.core.proofs.Kept.{new-checked}

@@ -4,7 +4,8 @@ use mathlib.Core.List.{List}
 use Prim.Native.Nat.{ℕ, _≤_}
 use Rattle.model.specs.Threads.{newTable}
 use Rattle.model.specs.Refusals.{unless, makeRefusal}
-use Rattle.model.specs.Schedule.{threadByte, front, lawful}
+use Rattle.model.specs.RecordBytes.{threadByte, lawful}
+use Rattle.model.specs.Decoding.{front}
 use Rattle.core.specs.Runnable.{Checked}
 use Rattle.opening.specs.declared.Playback.{Playback}
 

@@ -8,8 +8,9 @@ use lib.ListN.{take}
 use borrow.Author.Tests.{leb-true}
 use Rattle.model.specs.declared.Table.{Table}
 use Rattle.model.specs.Answers.{SaidOutcome, shown}
-use Rattle.model.specs.Shared.{wordLimit}
-use Rattle.model.specs.Threads.{at, wordsAt}
+use Rattle.model.specs.Operations.{wordLimit}
+use Rattle.model.specs.Threads.{at}
+use Rattle.model.specs.Store.{wordsAt}
 use Rattle.model.specs.WellFormed.{numbersInRange, wellFormed}
 use Rattle.model.specs.Calls.{step, State}
 use Rattle.model.specs.Refusals.{unless, refusal, outcomeRefusal}

@@ -8,7 +8,8 @@ use native.Mathlib.Omega.{arith}
 use lib.IntN.{ℤ}
 use Rattle.model.specs.declared.Operation.{Operation}
 use Rattle.model.specs.Lists.{bit}
-use Rattle.model.specs.Shared.{codeOnly, targetBeyond, hasReceive}
+use Rattle.model.specs.Codes.{codeOnly}
+use Rattle.model.specs.Operations.{targetBeyond, hasReceive}
 use Rattle.model.specs.Atomic.{runs, AtomicThread, Machine, ending, beginning, CanAbort, cancelledSending, lateSending, cancelledReceiving, lateReceiving}
 use Rattle.model.specs.Linearization.{Entry}
 use Rattle.model.proofs.Laws.{by}

@@ -7,7 +7,8 @@ use mathlib.Core.List.{List, [], _∷_}
 use Prim.Native.Nat.{ℕ}
 use Rattle.model.specs.declared.Operation.{Operation}
 use Rattle.model.specs.declared.Outcome.{Outcome}
-use Rattle.model.specs.Shared.{done, accepts, message}
+use Rattle.model.specs.Codes.{done}
+use Rattle.model.specs.Operations.{accepts, message}
 use Rattle.model.specs.Atomic.{nothing, AtomicThread, runs, rendezvous, Can}
 use Rattle.model.specs.Linearization.{Entry, played, Allowed, latest, pairs, isPlace, fate, BeginsAt, Among}
 use Rattle.model.proofs.Laws.{by}

@@ -10,7 +10,8 @@ use borrow.Author.Tests.{eqb-false, eq-eqb, ne-eqb}
 use Rattle.model.specs.declared.Receive.{Receive}
 use Rattle.model.specs.declared.Operation.{Operation}
 use Rattle.model.specs.Lists.{update}
-use Rattle.model.specs.Shared.{running, sameCode, done, codeOnly, hasReceive, accepts, message}
+use Rattle.model.specs.Codes.{running, sameCode, done, codeOnly}
+use Rattle.model.specs.Operations.{hasReceive, accepts, message}
 use Rattle.model.specs.Atomic.{Run, nothing, sending, receiving, AtomicThread, Machine, begins, cancels, ticks, rendezvous, aborts, runs, ending, turning, beginning, cancelling, ticking, receiverAfter, senderAfter, play, isReceiving, acceptsIn, CanAbort, cancelledSending, lateSending, cancelledReceiving, lateReceiving, Can}
 use Rattle.model.specs.Linearization.{Entry, playEntry, Allowed, beginsBy}
 use Rattle.model.proofs.Laws.{by, same?}

@@ -10,7 +10,7 @@ use lib.ListN.{length}
 use borrow.Author.Tests.{eq-eqb}
 use Rattle.model.specs.Atomic.{begins, runs, Can}
 use Rattle.model.specs.declared.Operation.{Operation}
-use Rattle.model.specs.Shared.{running}
+use Rattle.model.specs.Codes.{running}
 use Rattle.model.specs.Linearization.{Entry, played, beginsBy, latest, isRunning, EndsAt, HasEnded, Allowed, BeginsAt}
 use Rattle.model.proofs.Laws.{by}
 use Rattle.laws.proofs.Codes.{code-is, code-differs}

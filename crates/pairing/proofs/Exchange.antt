@@ -9,7 +9,8 @@ use lib.Dec.{eqb}
 use borrow.Author.Tests.{eqb-true, eqb-false}
 use Rattle.model.specs.declared.Operation.{Operation}
 use Rattle.model.specs.Lists.{bit, occurs}
-use Rattle.model.specs.Shared.{done, accepts, message}
+use Rattle.model.specs.Codes.{done}
+use Rattle.model.specs.Operations.{accepts, message}
 use Rattle.model.specs.Linearization.{Entry, pairs, fate, BeginsAt, Among, sendCompleted, receiveCompleted}
 use Rattle.model.proofs.Laws.{by}
 use Rattle.pairing.proofs.Sides.{Side, placeOn, completed, sender, receiver}

@@ -9,7 +9,8 @@ use native.Mathlib.Omega.{arith}
 use lib.ListN.{length}
 use Rattle.model.specs.declared.Operation.{Operation}
 use Rattle.model.specs.declared.Outcome.{Outcome}
-use Rattle.model.specs.Shared.{running, noReceiver, sameCode, codeOnly, targetBeyond}
+use Rattle.model.specs.Codes.{running, noReceiver, sameCode, codeOnly}
+use Rattle.model.specs.Operations.{targetBeyond}
 use Rattle.model.specs.Atomic.{Run, nothing, sending, receiving, AtomicThread, Machine, firstMachine, runs, ending, beginning, play}
 use Rattle.model.specs.Linearization.{Entry, playEntry, played, Allowed, beginsBy, latest, isRunning, BeginsAt}
 use Rattle.model.proofs.Laws.{by}

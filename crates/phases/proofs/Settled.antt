@@ -5,7 +5,7 @@ use mathlib.Core.List.{List}
 use Prim.Native.Nat.{ℕ}
 use borrow.Author.Tests.{eq-eqb, ne-eqb}
 use Rattle.model.specs.declared.Thread.{Thread}
-use Rattle.model.specs.Threads.{Phase, copy, phaseOf, phaseNumber}
+use Rattle.model.specs.Phases.{Phase, copy, phaseOf, phaseNumber}
 use Rattle.model.specs.Step.{Action, decideIn}
 use Rattle.laws.proofs.Lists.{cond-true, cond-false}
 use Rattle.actions.specs.declared.Change.{Change}

@@ -7,8 +7,10 @@ use Prim.Native.Nat.{ℕ, _≤_}
 use lib.ListN.{getD, set}
 use lib.Dec.{eqb, ltb}
 use Rattle.model.specs.declared.Thread.{Thread}
-use Rattle.model.specs.Shared.{nobody, wordLimit}
-use Rattle.model.specs.Threads.{copy, look, phaseOf, phaseNumber, findSender}
+use Rattle.model.specs.Codes.{nobody}
+use Rattle.model.specs.Operations.{wordLimit}
+use Rattle.model.specs.Phases.{copy, look, phaseOf, phaseNumber}
+use Rattle.model.specs.Queues.{findSender}
 
 -- what the search has found, where o is the first acceptable sender or nobody
 unfoldable pub foundAs : ℕ → Option ℕ

@@ -9,7 +9,10 @@ use lib.ListN.{length, drop, length-append}
 use lib.Seq.{drop-drop}
 use lib.Dec.{eqb}
 use Rattle.model.specs.Lists.{concat}
-use Rattle.model.specs.Schedule.{beginKind, recordLength, kindByte, wordAt, front, lawful, operationOf, recordOf, encode, isEmpty, readFrom, encodeAll}
+use Rattle.model.specs.RecordBytes.{beginKind, recordLength, kindByte, wordAt, lawful}
+use Rattle.model.specs.Decoding.{front, operationOf, recordOf}
+use Rattle.model.specs.Encoding.{encode}
+use Rattle.model.specs.Schedule.{isEmpty, readFrom, encodeAll}
 use Rattle.model.specs.Bondtrace.{Tally, recordsPlayed}
 use Rattle.model.proofs.Laws.{by, length-up-to}
 use Rattle.laws.proofs.Lists.{cond-true, cond-false}

@@ -5,7 +5,8 @@ use mathlib.Core.List.{List, _++_}
 use Prim.Native.Nat.{ℕ, _+_}
 use lib.ListN.{length, drop}
 use lib.Seq.{drop-drop}
-use Rattle.model.specs.Schedule.{front, lawful}
+use Rattle.model.specs.Decoding.{front}
+use Rattle.model.specs.RecordBytes.{lawful}
 use Rattle.model.specs.Bondtrace.{Tally}
 use Rattle.pieces.specs.Playing.{Progress, ahead, playedOn}
 use Rattle.pieces.proofs.Playing.{behind, further, ahead-none, ahead-again, played-stops, played-more, of-all-played}

@@ -8,7 +8,8 @@ use lib.ListN.{length, drop, length-append, List·getD-append}
 use lib.Seq.{take-append-le, drop-append-le}
 use lib.Dec.{leb}
 use borrow.Author.Tests.{leb-true, leb-false, le-leb}
-use Rattle.model.specs.Schedule.{recordLength, kindByte, front, lawful}
+use Rattle.model.specs.RecordBytes.{recordLength, kindByte, lawful}
+use Rattle.model.specs.Decoding.{front}
 use Rattle.model.proofs.Laws.{by, and-left, and-right, and-made}
 use Rattle.laws.proofs.Lists.{second-fails}
 use Rattle.laws.proofs.Schedule.{record-longest, front-length, lawful-long, lawful-head-long}

@@ -7,7 +7,9 @@ use lib.ListN.{length, drop}
 use lib.Seq.{drop-append-le, drop-drop}
 use Rattle.model.specs.Lists.{concat, allOf}
 use Rattle.model.specs.Refusals.{unless}
-use Rattle.model.specs.Schedule.{recordLength, threadByte, front, lawful, isEmpty}
+use Rattle.model.specs.RecordBytes.{recordLength, threadByte, lawful}
+use Rattle.model.specs.Decoding.{front}
+use Rattle.model.specs.Schedule.{isEmpty}
 use Rattle.model.specs.Bondtrace.{Tally, started, bondtrace}
 use Rattle.model.proofs.Laws.{by}
 use Rattle.laws.proofs.Lists.{cond-true, cond-false}

@@ -6,7 +6,8 @@ use Prim.Native.Nat.{ℕ, zero, suc, _+_, _<_}
 use native.Mathlib.Omega.{arith}
 use lib.ListN.{length, drop}
 use lib.Seq.{drop-drop}
-use Rattle.model.specs.Schedule.{front, lawful, recordOf}
+use Rattle.model.specs.Decoding.{front, recordOf}
+use Rattle.model.specs.RecordBytes.{lawful}
 use Rattle.model.specs.Bondtrace.{Tally, recordPlayed}
 use Rattle.model.proofs.Laws.{by}
 use Rattle.laws.proofs.Lists.{cond-true, cond-false}

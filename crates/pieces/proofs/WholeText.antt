@@ -13,7 +13,9 @@ use borrow.Author.Tests.{eqb-true, le-leb, lt-leb}
 use Rattle.model.specs.declared.Record.{Record}
 use Rattle.model.specs.WellFormed.{sizeInRange}
 use Rattle.model.specs.Refusals.{firstRefusal, unless, badSize, makeRefusal}
-use Rattle.model.specs.Schedule.{tableKind, recordLength, kindByte, threadByte, front, lawful, recordOf, Fault, Reading, isEmpty, readFrom, decodeAll}
+use Rattle.model.specs.RecordBytes.{tableKind, recordLength, kindByte, threadByte, lawful}
+use Rattle.model.specs.Decoding.{front, recordOf}
+use Rattle.model.specs.Schedule.{Fault, Reading, isEmpty, readFrom, decodeAll}
 use Rattle.model.specs.Bondtrace.{Tally, recordsPlayed, started, finalText, badLine, callsText, readingText, bondtrace}
 use Rattle.model.proofs.Laws.{by, and-made, all-of-read, alike-read}
 use Rattle.laws.proofs.Lists.{cond-true, cond-false}

@@ -7,7 +7,9 @@ use Prim.Native.Nat.{ℕ, suc, _+_, _≤_}
 use lib.ListN.{length, drop}
 use Rattle.model.specs.Lists.{concat}
 use Rattle.model.specs.Refusals.{unless, makeRefusal}
-use Rattle.model.specs.Schedule.{threadByte, front, lawful, Reading, isEmpty, readFrom, encodeAll}
+use Rattle.model.specs.RecordBytes.{threadByte, lawful}
+use Rattle.model.specs.Decoding.{front}
+use Rattle.model.specs.Schedule.{Reading, isEmpty, readFrom, encodeAll}
 use Rattle.model.specs.Bondtrace.{Tally, recordsPlayed, started, finalText, badLine, bondtrace}
 use Rattle.pieces.specs.Playing.{Progress, ahead, playedOn}
 

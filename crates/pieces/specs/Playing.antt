@@ -4,7 +4,8 @@ use mathlib.Core.List.{List}
 use Prim.Native.Nat.{ℕ, zero, suc, _+_}
 use lib.ListN.{length, drop}
 use lib.Dec.{leb}
-use Rattle.model.specs.Schedule.{kindByte, recordLength, front, lawful, recordOf}
+use Rattle.model.specs.RecordBytes.{kindByte, recordLength, lawful}
+use Rattle.model.specs.Decoding.{front, recordOf}
 use Rattle.model.specs.Bondtrace.{Tally, recordPlayed}
 
 -- how far playing came: what it left, how many bytes it took, and whether what stands behind them is an unlawful record

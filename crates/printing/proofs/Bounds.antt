@@ -10,7 +10,8 @@ use lib.Dec.{ltb}
 use borrow.Author.Tests.{lt-ltb}
 use Rattle.model.specs.declared.Outcome.{Outcome}
 use Rattle.model.specs.Lists.{upTo, concat}
-use Rattle.model.specs.Threads.{at, wordsAt}
+use Rattle.model.specs.Threads.{at}
+use Rattle.model.specs.Store.{wordsAt}
 use Rattle.model.specs.Calls.{State}
 use Rattle.model.specs.Promise.{view}
 use Rattle.model.specs.Bondtrace.{ascii, digit, digits, decimal, signed, Tally, threadLine, finalText, badLine}

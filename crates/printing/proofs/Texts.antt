@@ -11,7 +11,8 @@ use borrow.Author.Tests.{leb-true, leb-false}
 use Rattle.model.specs.Lists.{upTo, concat}
 use Rattle.model.specs.declared.Thread.{Thread}
 use Rattle.model.specs.declared.Table.{Table}
-use Rattle.model.specs.Threads.{at, zeroThread, wordsAt}
+use Rattle.model.specs.Threads.{at, zeroThread}
+use Rattle.model.specs.Store.{wordsAt}
 use Rattle.model.specs.Calls.{State}
 use Rattle.model.specs.Promise.{view}
 use Rattle.model.specs.Bondtrace.{ascii, decimal, threadLine}

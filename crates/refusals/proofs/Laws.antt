@@ -9,8 +9,10 @@ use borrow.Author.Tests.{lt-ltb, le-ltb, leb-true, leb-false, eq-eqb, ne-eqb}
 use Rattle.model.specs.declared.Operation.{Operation}
 use Rattle.model.specs.declared.Thread.{Thread}
 use Rattle.model.specs.declared.Table.{Table}
-use Rattle.model.specs.Shared.{isTimeCode, hasReceive, receiveTime}
-use Rattle.model.specs.Threads.{idle, phaseNumber, at}
+use Rattle.model.specs.Times.{isTimeCode}
+use Rattle.model.specs.Operations.{hasReceive, receiveTime}
+use Rattle.model.specs.Phases.{idle, phaseNumber}
+use Rattle.model.specs.Threads.{at}
 use Rattle.model.specs.WellFormed.{inPhase}
 use Rattle.model.specs.Refusals.{Row, firstRefusal, notIdle, badTime}
 use Rattle.model.proofs.Laws.{by}

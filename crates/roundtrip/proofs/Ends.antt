@@ -9,7 +9,10 @@ use native.Mathlib.Omega.{arith}
 use lib.ListN.{length, drop, length-append}
 use Rattle.model.specs.declared.Record.{Record}
 use Rattle.model.specs.Lists.{concat}
-use Rattle.model.specs.Schedule.{front, lawful, AllLawful, recordOf, encode, lawfulRecord, Fault, Reading, readFrom, encodeAll}
+use Rattle.model.specs.Decoding.{front, recordOf}
+use Rattle.model.specs.RecordBytes.{lawful}
+use Rattle.model.specs.Schedule.{AllLawful, Fault, Reading, readFrom, encodeAll}
+use Rattle.model.specs.Encoding.{encode, lawfulRecord}
 use Rattle.model.proofs.Laws.{by}
 use Rattle.laws.proofs.Schedule.{front-and-behind}
 use Rattle.roundtrip.specs.Fits.{Bytes, AllFit}

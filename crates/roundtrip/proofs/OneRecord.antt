@@ -11,7 +11,9 @@ use borrow.Author.Tests.{leb-true, leb-false, le-leb, lt-leb}
 use Rattle.model.specs.declared.Record.{Record}
 use Rattle.model.specs.Answers.{accepted, refused, replied}
 use Rattle.model.specs.Refusals.{firstRefusal, unless}
-use Rattle.model.specs.Schedule.{beginKind, front, lawful, recordOf, unreadable, decodeRefusal, decodeAnswer, decode, encode, lawfulRecord, unwritable, encodeRefusal, encodeAnswer, encodeBuffer}
+use Rattle.model.specs.RecordBytes.{beginKind, lawful}
+use Rattle.model.specs.Decoding.{front, recordOf, unreadable, decodeRefusal, decodeAnswer, decode}
+use Rattle.model.specs.Encoding.{encode, lawfulRecord, unwritable, encodeRefusal, encodeAnswer, encodeBuffer}
 use Rattle.model.proofs.Laws.{by, and-made}
 use Rattle.roundtrip.specs.Fits.{Bytes}
 use Rattle.roundtrip.specs.OneRecord.{Reads, ReadWritten, WrittenRead, ReadingRefused, Writes, RecordWritten, WritingRefused, BytesWritten, WriteThenRead, ReadThenWrite}

@@ -15,8 +15,10 @@ use Rattle.model.specs.declared.Receive.{Receive}
 use Rattle.model.specs.declared.Receive.the-variants.{Absent, Open, Closed}
 use Rattle.model.specs.declared.Operation.{Operation}
 use Rattle.model.specs.Lists.{bit, concat, upTo}
-use Rattle.model.specs.Shared.{hasReceive, receiveTime}
-use Rattle.model.specs.Schedule.{byte, partsByte, partnerByte, receiveTimeByte, sendBit, receiveBit, openBit, wordAt, wordBytes, openPart, partnerOf, partsOf, operationOf, operationBytes, lawfulBegin}
+use Rattle.model.specs.Operations.{hasReceive, receiveTime, openPart}
+use Rattle.model.specs.RecordBytes.{byte, partsByte, partnerByte, receiveTimeByte, sendBit, receiveBit, openBit, wordAt, lawfulBegin}
+use Rattle.model.specs.Encoding.{wordBytes, partnerOf, partsOf, operationBytes}
+use Rattle.model.specs.Decoding.{operationOf}
 use Rattle.model.proofs.Laws.{by, implies-read, all-of-read, length-up-to}
 use Rattle.laws.proofs.Lists.{bit-small, take-up-to}
 use Rattle.roundtrip.specs.Fits.{Bytes, FitsOperation}

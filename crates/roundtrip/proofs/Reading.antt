@@ -9,7 +9,9 @@ use lib.ListN.{length, drop, length-append}
 use lib.Seq.{drop-append-seam}
 use Rattle.model.specs.Lists.{concat}
 use Rattle.model.specs.Refusals.{unless}
-use Rattle.model.specs.Schedule.{front, lawful, AllLawful, recordOf, isEmpty, Reading, readFrom}
+use Rattle.model.specs.Decoding.{front, recordOf}
+use Rattle.model.specs.RecordBytes.{lawful}
+use Rattle.model.specs.Schedule.{AllLawful, isEmpty, Reading, readFrom}
 use Rattle.laws.proofs.Schedule.{front-length, lawful-least, lawful-head-long}
 use Rattle.roundtrip.proofs.Records.{front-lawful}
 use Rattle.roundtrip.proofs.OneRecord.{read-accepted, read-refused}

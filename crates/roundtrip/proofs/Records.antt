@@ -12,7 +12,9 @@ use Rattle.model.specs.declared.Operation.{Operation}
 use Rattle.model.specs.declared.Record.{Record}
 use Rattle.model.specs.Lists.{concat, upTo}
 use Rattle.model.specs.Threads.{noOperation}
-use Rattle.model.specs.Schedule.{beginKind, recordLength, byte, kindByte, sendBit, receiveBit, openBit, wordAt, wordBytes, partsOf, operationOf, operationBytes, lawfulBegin, lawful, recordOf, front, encode, allZero, lawfulRecord}
+use Rattle.model.specs.RecordBytes.{beginKind, recordLength, byte, kindByte, sendBit, receiveBit, openBit, wordAt, lawfulBegin, lawful}
+use Rattle.model.specs.Encoding.{wordBytes, partsOf, operationBytes, encode, allZero, lawfulRecord}
+use Rattle.model.specs.Decoding.{operationOf, recordOf, front}
 use Rattle.model.proofs.Laws.{by, and-left, and-right, implies-read, implies-made, all-of-read, all-of-made, _and_}
 use Rattle.laws.proofs.Joined.{take-under}
 use Rattle.laws.proofs.Schedule.{record-begin, record-other, words-length, lawful-length, lawful-least}

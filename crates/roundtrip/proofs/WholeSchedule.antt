@@ -9,7 +9,10 @@ use native.Mathlib.Omega.{arith}
 use lib.ListN.{length}
 use Rattle.model.specs.declared.Record.{Record}
 use Rattle.model.specs.Lists.{concat}
-use Rattle.model.specs.Schedule.{lawful, lawfulRecord, AllLawful, LawfulRecords, LawfulSchedule, recordOf, encode, Reading, encodeAll, decodeAll}
+use Rattle.model.specs.RecordBytes.{lawful}
+use Rattle.model.specs.Encoding.{lawfulRecord, encode}
+use Rattle.model.specs.Schedule.{AllLawful, LawfulRecords, LawfulSchedule, Reading, encodeAll, decodeAll}
+use Rattle.model.specs.Decoding.{recordOf}
 use Rattle.roundtrip.specs.Fits.{AllFit}
 use Rattle.roundtrip.specs.WholeSchedule.{ScheduleReadWritten, Complete, ScheduleWrittenRead, ScheduleBytes, Stopped, ReadingEnds, FaultTells}
 use Rattle.roundtrip.proofs.Lists.{append-under, nil-under}

@@ -7,7 +7,8 @@ use native.Mathlib.Nat.{div-div-eq-div-mul}
 use lib.ListN.{length, getD, take, drop, length-drop}
 use lib.Seq.{getD-drop, drop-append-add, drop-drop, take-all, take-add}
 use Rattle.model.specs.Lists.{concat, upTo}
-use Rattle.model.specs.Schedule.{byte, wordBytes, wordAt}
+use Rattle.model.specs.RecordBytes.{byte, wordAt}
+use Rattle.model.specs.Encoding.{wordBytes}
 use Rattle.laws.proofs.Lists.{take-up-to}
 use Rattle.laws.proofs.Joined.{concat-snoc}
 use Rattle.roundtrip.specs.Fits.{AllUnder, Bytes}

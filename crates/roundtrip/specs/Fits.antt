@@ -5,8 +5,8 @@ use Prim.Native.Nat.{ℕ, _<_}
 use lib.ListN.{length, getD}
 use Rattle.model.specs.declared.Operation.{Operation}
 use Rattle.model.specs.declared.Record.{Record}
-use Rattle.model.specs.Shared.{receiveTime}
-use Rattle.model.specs.Schedule.{partnerOf}
+use Rattle.model.specs.Operations.{receiveTime}
+use Rattle.model.specs.Encoding.{partnerOf}
 
 -- every number of a list is below a bound; past the list's end there is 0
 abbrev pub AllUnder : ℕ → List ℕ → Type 0

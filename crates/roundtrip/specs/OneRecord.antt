@@ -9,7 +9,9 @@ use Rattle.model.specs.declared.Record.{Record}
 use Rattle.model.specs.declared.Answer.{Answer}
 use Rattle.model.specs.Answers.{accepted, refused, replied, said}
 use Rattle.model.specs.Threads.{noOperation}
-use Rattle.model.specs.Schedule.{front, lawful, recordOf, decodeAnswer, decode, DecodePromise, encode, lawfulRecord, encodeAnswer, encodeBuffer, EncodePromise}
+use Rattle.model.specs.Decoding.{front, recordOf, decodeAnswer, decode, DecodePromise}
+use Rattle.model.specs.RecordBytes.{lawful}
+use Rattle.model.specs.Encoding.{encode, lawfulRecord, encodeAnswer, encodeBuffer, EncodePromise}
 use Rattle.roundtrip.specs.Fits.{Bytes, FitsRecord}
 
 -- ---- reading

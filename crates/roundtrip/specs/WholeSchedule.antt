@@ -7,7 +7,10 @@ use mathlib.Core.List.{List, [], _∷_, _++_}
 use Prim.Native.Nat.{ℕ, _<_}
 use lib.ListN.{length}
 use Rattle.model.specs.declared.Record.{Record}
-use Rattle.model.specs.Schedule.{front, lawful, lawfulRecord, AllLawful, LawfulRecords, LawfulSchedule, Reading, encodeAll, decodeAll}
+use Rattle.model.specs.Decoding.{front}
+use Rattle.model.specs.RecordBytes.{lawful}
+use Rattle.model.specs.Encoding.{lawfulRecord}
+use Rattle.model.specs.Schedule.{AllLawful, LawfulRecords, LawfulSchedule, Reading, encodeAll, decodeAll}
 use Rattle.roundtrip.specs.Fits.{Bytes, AllFit}
 
 -- ---- lawful schedules

@@ -7,7 +7,8 @@ use native.Mathlib.Omega.{arith}
 use lib.ListN.{length, take, drop, replicate, length-append, length-drop, take-append-drop, length-replicate, replicate-append-replicate}
 use lib.Seq.{length-take-le, take-all, take-append-seam, take-take, drop-drop}
 use Rattle.model.specs.Refusals.{makeRefusal}
-use Rattle.model.specs.Schedule.{threadByte, front, lawful}
+use Rattle.model.specs.RecordBytes.{threadByte, lawful}
+use Rattle.model.specs.Decoding.{front}
 use Rattle.model.proofs.Laws.{by}
 use Rattle.laws.proofs.Schedule.{front-thread}
 use Rattle.model.proofs.Numbers.{size-read}

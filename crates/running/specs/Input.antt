@@ -5,7 +5,7 @@ use mathlib.Core.List.{List, _++_}
 use Prim.Native.Nat.{ℕ}
 use lib.ListN.{length}
 use Rattle.model.specs.Refusals.{makeRefusal}
-use Rattle.model.specs.Schedule.{threadByte, lawful}
+use Rattle.model.specs.RecordBytes.{threadByte, lawful}
 use Rattle.opening.specs.declared.Playback.{Playback}
 use Rattle.opening.specs.Opened.{opened}
 use Rattle.trace.specs.Known.{Reached}

@@ -8,7 +8,7 @@ use native.Mathlib.Omega.{arith}
 use lib.Dec.{eqb, ltb}
 use borrow.Author.Tests.{lt-ltb, le-ltb, eq-eqb, ne-eqb}
 use Rattle.model.specs.Lists.{implies, allOf, allBelow}
-use Rattle.model.specs.Schedule.{wordAt}
+use Rattle.model.specs.RecordBytes.{wordAt}
 use Rattle.model.proofs.Laws.{by, same?, all-below-read, all-below-made}
 use Rattle.laws.proofs.Tests.{all-joined}
 

@@ -10,7 +10,8 @@ use lib.Seq.{length-take-le, take-all}
 use lib.Dec.{eqb, leb, ltb}
 use borrow.Author.Tests.{ltb-true, eqb-true, eq-eqb, ne-eqb, le-leb, lt-leb, leb-true, leb-false}
 use Rattle.model.specs.Lists.{implies, allOf, allBelow, upTo}
-use Rattle.model.specs.Schedule.{tableKind, beginKind, tickKind, recordLength, byte, kindByte, countByte, wordAt, lawfulBegin, lawful, operationOf, front}
+use Rattle.model.specs.RecordBytes.{tableKind, beginKind, tickKind, recordLength, byte, kindByte, countByte, wordAt, lawfulBegin, lawful}
+use Rattle.model.specs.Decoding.{operationOf, front}
 use Rattle.model.proofs.Laws.{by, and-left}
 -- those who cite the laws below find these beside them
 pub use Rattle.laws.proofs.Schedule.{record-head, record-begin, front-kind, front-thread, lawful-long, lawful-head-long}

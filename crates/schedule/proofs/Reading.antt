@@ -9,7 +9,8 @@ use Rattle.model.specs.declared.Answer.the-variants.{Refused, Accepted}
 use Rattle.model.specs.declared.Record.{Record}
 use Rattle.model.specs.Threads.{noOperation}
 use Rattle.model.specs.Refusals.{firstRefusal, unless}
-use Rattle.model.specs.Schedule.{beginKind, kindByte, threadByte, lawful, operationOf, recordOf, front, unreadable, decodeRefusal, decodeAnswer, decode, DecodePromise}
+use Rattle.model.specs.RecordBytes.{beginKind, kindByte, threadByte, lawful}
+use Rattle.model.specs.Decoding.{operationOf, recordOf, front, unreadable, decodeRefusal, decodeAnswer, decode, DecodePromise}
 use Rattle.schedule.proofs.Fronts.{front-kind, front-thread, front-operation}
 
 -- the record at the front of bytes that start with no begin

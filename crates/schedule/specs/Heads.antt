@@ -4,7 +4,7 @@ use mathlib.Core.List.{List, [], _∷_}
 use Prim.Native.Nat.{ℕ}
 use lib.Dec.{eqb, leb}
 use Rattle.model.specs.Lists.{implies, allOf}
-use Rattle.model.specs.Schedule.{byte, kindByte, threadByte, tableKind, tickKind}
+use Rattle.model.specs.RecordBytes.{byte, kindByte, threadByte, tableKind, tickKind}
 
 -- the mark, a kind that there is, the table's kind first and only there, and no thread in a tick
 unfoldable pub lawfulHead : Bool → List ℕ → Bool

@@ -7,8 +7,9 @@ use Prim.Native.Nat.{ℕ, _<_}
 use native.Mathlib.Omega.{arith}
 use lib.IntN.{ℤ}
 use Rattle.model.specs.declared.Thread.{Thread}
-use Rattle.model.specs.Shared.{receiveTimeOver, sendTimeOver, receiveCancelled, sendCancelled, nobody, codeOnly}
-use Rattle.model.specs.Threads.{check, look, phaseOf, departed, findSender, ready}
+use Rattle.model.specs.Codes.{receiveTimeOver, sendTimeOver, receiveCancelled, sendCancelled, nobody, codeOnly}
+use Rattle.model.specs.Phases.{check, look, phaseOf}
+use Rattle.model.specs.Queues.{departed, findSender, ready}
 use Rattle.model.specs.Step.{Action, abortSend, abortReceive, ownAfter, otherAfter}
 use Rattle.model.specs.Atomic.{receiving, Machine, aborts, ending, play, CanAbort, cancelledSending, lateSending, cancelledReceiving, lateReceiving}
 use Rattle.laws.proofs.Search.{none-acceptable}

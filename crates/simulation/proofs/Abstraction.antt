@@ -7,9 +7,10 @@ use native.Mathlib.Omega.{arith}
 use lib.ListN.{length, getD, take}
 use Rattle.model.specs.declared.Operation.{Operation}
 use Rattle.model.specs.declared.Thread.{Thread}
-use Rattle.model.specs.Shared.{nobody, wordLimit}
-use Rattle.model.specs.Threads.{withCopied, wordsAt}
-use Rattle.model.specs.Step.{wordCopied}
+use Rattle.model.specs.Codes.{nobody}
+use Rattle.model.specs.Operations.{wordLimit}
+use Rattle.model.specs.Threads.{withCopied}
+use Rattle.model.specs.Store.{wordsAt, wordCopied}
 use Rattle.model.specs.Atomic.{Run, nothing, sending, receiving, runs, AtomicThread}
 use Rattle.model.proofs.Laws.{same?}
 use Rattle.laws.proofs.Store.{wordPlace, word-at, word-copied-here, word-copied-elsewhere}

@@ -10,8 +10,12 @@ use borrow.Author.Tests.{not-true}
 use Rattle.model.specs.declared.Operation.{Operation}
 use Rattle.model.specs.declared.Thread.{Thread}
 use Rattle.model.specs.Lists.{update}
-use Rattle.model.specs.Shared.{nobody, noReceiver, codeOnly, targetBeyond}
-use Rattle.model.specs.Threads.{Phase, idle, lock, look, at, ended, joined, wordsAt, zeroed, phaseOf}
+use Rattle.model.specs.Codes.{nobody, noReceiver, codeOnly}
+use Rattle.model.specs.Operations.{targetBeyond}
+use Rattle.model.specs.Phases.{Phase, idle, lock, look, phaseOf}
+use Rattle.model.specs.Threads.{at, ended}
+use Rattle.model.specs.Queues.{joined}
+use Rattle.model.specs.Store.{wordsAt, zeroed}
 use Rattle.model.specs.Calls.{begunFlags, begun, beginTable, State}
 use Rattle.model.specs.Atomic.{Machine, begins, ending, beginning, play, Can}
 use Rattle.laws.proofs.Tables.{edit-at, edit-two-at}

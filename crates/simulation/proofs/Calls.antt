@@ -8,7 +8,8 @@ use lib.ListN.{length}
 use Rattle.model.specs.declared.Thread.{Thread}
 use Rattle.model.specs.declared.Table.{Table}
 use Rattle.model.specs.Lists.{update}
-use Rattle.model.specs.Threads.{at, editBelow, marked, wordsAt}
+use Rattle.model.specs.Threads.{at, editBelow, marked}
+use Rattle.model.specs.Store.{wordsAt}
 use Rattle.model.specs.Step.{Action, stay, takeLock, abortSend, startCopy, toRelease, copyWord, finishCall, finishSend, freeTarget, retry, toIdle, abortReceive, takeSender, clearPoll, freeSender, decide}
 use Rattle.model.specs.Calls.{cancelTable, cancelReply, ticked, tickTable, Call, begin, step, cancel, tick, State, acceptedReply, acceptedState}
 use Rattle.model.specs.Refusals.{refusal}

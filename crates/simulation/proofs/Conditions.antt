@@ -7,8 +7,8 @@ use borrow.Author.Tests.{eq-eqb}
 use Rattle.model.specs.declared.Operation.{Operation}
 use Rattle.model.specs.declared.Thread.{Thread}
 use Rattle.model.specs.Lists.{implies, allOf}
-use Rattle.model.specs.Shared.{accepts}
-use Rattle.model.specs.Threads.{ready}
+use Rattle.model.specs.Operations.{accepts}
+use Rattle.model.specs.Queues.{ready}
 use Rattle.model.specs.WellFormed.{sendsTo}
 use Rattle.model.specs.Atomic.{nothing, sending, receiving, runs, AtomicThread, Machine, QueuedAt, acceptsIn, isReceiving, readyFor}
 use Rattle.laws.proofs.Queues.{sends-to}

@@ -5,9 +5,10 @@ use mathlib.Core.List.{List}
 use Prim.Native.Nat.{ℕ, _<_}
 use native.Mathlib.Omega.{arith}
 use Rattle.model.specs.declared.Thread.{Thread}
-use Rattle.model.specs.Shared.{wordLimit}
-use Rattle.model.specs.Threads.{copy, phaseOf, wordsAt}
-use Rattle.model.specs.Step.{copyWord, ownAfter, otherAfter, wordCopied}
+use Rattle.model.specs.Operations.{wordLimit}
+use Rattle.model.specs.Phases.{copy, phaseOf}
+use Rattle.model.specs.Store.{wordsAt, wordCopied}
+use Rattle.model.specs.Step.{copyWord, ownAfter, otherAfter}
 use Rattle.model.specs.Atomic.{Machine}
 use Rattle.model.proofs.Laws.{same?}
 use Rattle.laws.proofs.Store.{words-copied-other}

@@ -3,7 +3,7 @@ use mathlib.Core.Path.{_≡_, refl}
 use mathlib.Core.List.{List}
 use Prim.Native.Nat.{ℕ, _≤_}
 use native.Mathlib.Omega.{arith}
-use Rattle.model.specs.Shared.{nobody}
+use Rattle.model.specs.Codes.{nobody}
 use Rattle.model.specs.Threads.{newThread, newTable, at}
 use Rattle.model.specs.Atomic.{firstMachine}
 use Rattle.formed.proofs.Flags.{isOneOf}

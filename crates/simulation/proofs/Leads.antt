@@ -7,7 +7,7 @@ use Prim.Native.Nat.{ℕ, _*_, _<_}
 use lib.ListN.{length}
 use Rattle.model.specs.declared.Thread.{Thread}
 use Rattle.model.specs.Lists.{update}
-use Rattle.model.specs.Threads.{wordsAt}
+use Rattle.model.specs.Store.{wordsAt}
 use Rattle.model.specs.Atomic.{AtomicThread, Machine}
 use Rattle.model.specs.Linearization.{Entry, playEntry, Allowed}
 use Rattle.model.proofs.Laws.{same?}

@@ -8,8 +8,11 @@ use native.Mathlib.Omega.{arith}
 use lib.ListN.{getD, take}
 use Rattle.model.specs.declared.Thread.{Thread}
 use Rattle.model.specs.Lists.{update}
-use Rattle.model.specs.Shared.{hasReceive, message, nobody}
-use Rattle.model.specs.Threads.{copy, phaseOf, departed, wordsAt}
+use Rattle.model.specs.Operations.{hasReceive, message}
+use Rattle.model.specs.Codes.{nobody}
+use Rattle.model.specs.Phases.{copy, phaseOf}
+use Rattle.model.specs.Queues.{departed}
+use Rattle.model.specs.Store.{wordsAt}
 use Rattle.model.specs.Step.{finishCall, finishSend, received, ownAfter, otherAfter}
 use Rattle.model.specs.Atomic.{sending, Machine, rendezvous, receiverAfter, senderAfter, play, Can}
 use Rattle.laws.proofs.Store.{words-are-message}

@@ -8,8 +8,9 @@ use lib.ListN.{length}
 use lib.IntN.{ℤ}
 use Rattle.model.specs.declared.Thread.{Thread}
 use Rattle.model.specs.declared.Table.{Table}
-use Rattle.model.specs.Shared.{nobody}
-use Rattle.model.specs.Threads.{Phase, check, look, phaseOf, at}
+use Rattle.model.specs.Codes.{nobody}
+use Rattle.model.specs.Phases.{Phase, check, look, phaseOf}
+use Rattle.model.specs.Threads.{at}
 use Rattle.model.specs.Step.{Action, stay, takeLock, abortSend, startCopy, toRelease, copyWord, finishCall, finishSend, freeTarget, retry, toIdle, abortReceive, takeSender, clearPoll, freeSender, decide, ownAfter, otherAfter, act, storeAfter}
 use Rattle.model.specs.Atomic.{Machine, CanAbort}
 use Rattle.model.specs.Linearized.{eventOf}

@@ -1,8 +1,11 @@
 // Functions on one thread: each returns what a definition of the model says.
 ghost use mathlib.Core.Path.{_≡_};
 ghost use mathlib.Core.Bool.{cond};
-ghost use Rattle.model.specs.Shared.{isFailure, codeOnly, tickCount, fall, hasReceive, receiveTime, accepts, closedOn};
-ghost use Rattle.model.specs.Threads.{noFlags, ended, marked, withoutReceive, ready};
+ghost use Rattle.model.specs.Codes.{isFailure, codeOnly};
+ghost use Rattle.model.specs.Times.{tickCount, fall};
+ghost use Rattle.model.specs.Operations.{hasReceive, receiveTime, accepts, closedOn};
+ghost use Rattle.model.specs.Threads.{noFlags, ended, marked, withoutReceive};
+ghost use Rattle.model.specs.Queues.{ready};
 ghost use Rattle.model.specs.Calls.{ticked};
 use model::Flags;
 use model::Operation;

@@ -6,7 +6,8 @@ use Prim.Native.Nat.{ℕ, _+_, _-_, _*_}
 use native.Mathlib.Omega.{arith}
 use lib.ListN.{drop, replicate}
 use Rattle.model.specs.Refusals.{makeRefusal}
-use Rattle.model.specs.Schedule.{threadByte, lawful, isEmpty}
+use Rattle.model.specs.RecordBytes.{threadByte, lawful}
+use Rattle.model.specs.Schedule.{isEmpty}
 use Rattle.model.specs.Bondtrace.{started, finalText, badLine, bondtrace}
 use Rattle.core.proofs.Kept.{new-sized}
 use Rattle.pieces.specs.Playing.{Progress, ahead, playedOn}

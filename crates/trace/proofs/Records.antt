@@ -9,7 +9,8 @@ use borrow.Author.Tests.{eq-eqb}
 use Rattle.model.specs.declared.Record.{Record}
 use Rattle.model.specs.declared.Operation.{Operation}
 use Rattle.model.specs.Calls.{begin, step, cancel, tick}
-use Rattle.model.specs.Schedule.{beginKind, stepKind, cancelKind, tickKind, kindByte, threadByte, operationOf, recordOf, front, lawful}
+use Rattle.model.specs.RecordBytes.{beginKind, stepKind, cancelKind, tickKind, kindByte, threadByte, lawful}
+use Rattle.model.specs.Decoding.{operationOf, recordOf, front}
 use Rattle.model.specs.Bondtrace.{callOf}
 use Rattle.laws.proofs.Lists.{cond-true}
 use Rattle.schedule.proofs.Fronts.{front-kind, front-thread, front-operation, lawful-kind, lawful-later}

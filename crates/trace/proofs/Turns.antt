@@ -13,7 +13,8 @@ use Rattle.model.specs.declared.Answer.{Answer}
 use Rattle.model.specs.Calls.{Call, State}
 use Rattle.model.specs.Refusals.{refusal, unless}
 use Rattle.model.specs.Promise.{state, next, Promise}
-use Rattle.model.specs.Schedule.{kindByte, recordLength, front, lawful, recordOf}
+use Rattle.model.specs.RecordBytes.{kindByte, recordLength, lawful}
+use Rattle.model.specs.Decoding.{front, recordOf}
 use Rattle.model.specs.Bondtrace.{callOf, Tally, recordPlayed}
 use Rattle.model.proofs.Numbers.{size-read}
 use Rattle.model.proofs.Tested.{well-formed-told}

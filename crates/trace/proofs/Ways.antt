@@ -11,13 +11,15 @@ use Rattle.model.specs.declared.Thread.{Thread}
 use Rattle.model.specs.declared.Table.{Table}
 use Rattle.model.specs.declared.Answer.{Answer}
 use Rattle.model.specs.declared.Answer.the-variants.{Marked, NothingToCancel}
-use Rattle.model.specs.Shared.{nobody}
-use Rattle.model.specs.Threads.{at, put, marked, lockFree}
+use Rattle.model.specs.Codes.{nobody}
+use Rattle.model.specs.Threads.{at, put, marked}
+use Rattle.model.specs.Locks.{lockFree}
 use Rattle.model.specs.WellFormed.{wellFormed}
 use Rattle.model.specs.Calls.{begin, step, cancel, tick, State}
 use Rattle.model.specs.Refusals.{firstRefusal, noThread, lockOwned, placeRows, beginRows, laterRows, refusal}
 use Rattle.model.specs.Promise.{state, Promise}
-use Rattle.model.specs.Schedule.{beginKind, stepKind, cancelKind, tickKind, kindByte, threadByte, operationOf, recordLength, front, lawful}
+use Rattle.model.specs.RecordBytes.{beginKind, stepKind, cancelKind, tickKind, kindByte, threadByte, recordLength, lawful}
+use Rattle.model.specs.Decoding.{operationOf, front}
 use Rattle.model.proofs.Laws.{by, same?}
 use Rattle.laws.proofs.Lists.{cond-true, cond-false}
 use Rattle.laws.proofs.Tables.{put-own}

@@ -4,7 +4,7 @@ use mathlib.Core.Bool.{Bool, true}
 use mathlib.Core.List.{List}
 use Prim.Native.Nat.{ℕ, _-_, _≤_}
 use Rattle.model.specs.Refusals.{makeRefusal}
-use Rattle.model.specs.Schedule.{threadByte, lawful}
+use Rattle.model.specs.RecordBytes.{threadByte, lawful}
 use Rattle.model.specs.Bondtrace.{started}
 use Rattle.pieces.specs.Pieces.{Piecewise, KeepsPace}
 use Rattle.opening.specs.declared.Playback.{Playback}

@@ -8,7 +8,7 @@ use native.Mathlib.Omega.{arith}
 use lib.Dec.{eqb, ltb}
 use borrow.Author.Tests.{lt-ltb, le-ltb, ltb-true, ltb-false, eq-eqb, ne-eqb}
 use Rattle.model.specs.Lists.{allBelow}
-use Rattle.model.specs.Shared.{nobody}
+use Rattle.model.specs.Codes.{nobody}
 use Rattle.model.specs.WellFormed.{chain}
 use Rattle.model.proofs.Laws.{by, same?, all-below-read, all-below-made}
 use Rattle.formed.proofs.Locks.{within}

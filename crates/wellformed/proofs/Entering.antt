@@ -12,8 +12,8 @@ use lib.Dec.{eqb}
 use borrow.Author.Tests.{eqb-true, eqb-false, eq-eqb, ne-eqb}
 use Rattle.model.specs.declared.Thread.{Thread}
 use Rattle.model.specs.Lists.{bit, occurs}
-use Rattle.model.specs.Shared.{nobody}
-use Rattle.model.specs.Threads.{senders}
+use Rattle.model.specs.Codes.{nobody}
+use Rattle.model.specs.Queues.{senders}
 use Rattle.model.proofs.Laws.{by, same?, occurs-append}
 use Rattle.laws.proofs.Lists.{bit-small}
 use Rattle.wellformed.specs.Links.{numberAt}

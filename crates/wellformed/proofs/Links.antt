@@ -6,7 +6,7 @@ use native.Mathlib.Omega.{arith}
 use lib.Dec.{ltb}
 use borrow.Author.Tests.{ltb-true, lt-ltb, eqb-true, eqb-false, eq-eqb, ne-eqb, not-true}
 use Rattle.model.specs.Lists.{allBelow}
-use Rattle.model.specs.Shared.{nobody}
+use Rattle.model.specs.Codes.{nobody}
 use Rattle.model.proofs.Laws.{by, implies-read, implies-made, _and_, all-of-read, all-of-made, all-below-read, all-below-made}
 use Rattle.model.proofs.Chains.{chains-long}
 use Rattle.formed.proofs.Locks.{Owners, within, Chains}

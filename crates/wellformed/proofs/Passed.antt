@@ -13,8 +13,10 @@ use borrow.Author.Tests.{ne-eqb}
 use Rattle.model.specs.declared.Thread.{Thread}
 use Rattle.model.specs.declared.Table.{Table}
 use Rattle.model.specs.Lists.{allBelow}
-use Rattle.model.specs.Shared.{nobody}
-use Rattle.model.specs.Threads.{at, senders, ready, lockHeld}
+use Rattle.model.specs.Codes.{nobody}
+use Rattle.model.specs.Threads.{at}
+use Rattle.model.specs.Queues.{senders, ready}
+use Rattle.model.specs.Locks.{lockHeld}
 use Rattle.model.specs.WellFormed.{sendsTo}
 use Rattle.model.proofs.Laws.{by, same?}
 use Rattle.formed.proofs.Own.{Own}

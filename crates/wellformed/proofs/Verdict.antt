@@ -5,7 +5,8 @@ use mathlib.Core.List.{List}
 use Prim.Native.Nat.{ℕ, _≤_, _<_}
 use Rattle.model.specs.declared.Table.{Table}
 use Rattle.model.specs.Lists.{allBelow}
-use Rattle.model.specs.Threads.{at, senders, ready}
+use Rattle.model.specs.Threads.{at}
+use Rattle.model.specs.Queues.{senders, ready}
 use Rattle.model.specs.WellFormed.{Shaped, WellFormed, wellFormed}
 use Rattle.model.proofs.Laws.{by}
 use Rattle.model.proofs.Numbers.{size-read, size-made}

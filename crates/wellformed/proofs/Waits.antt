@@ -8,7 +8,7 @@ use native.Mathlib.Omega.{arith}
 use lib.Dec.{eqb, ltb}
 use borrow.Author.Tests.{ltb-true, ltb-false, lt-ltb, le-ltb, eqb-true, eqb-false, eq-eqb, ne-eqb}
 use Rattle.model.specs.Lists.{bit, occurs}
-use Rattle.model.specs.Shared.{nobody}
+use Rattle.model.specs.Codes.{nobody}
 use Rattle.model.proofs.Laws.{by, same?}
 use Rattle.laws.proofs.Lists.{bit-small, bit-holds}
 use Rattle.formed.proofs.Queues.{Queues}

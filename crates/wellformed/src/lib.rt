@@ -3,7 +3,7 @@ ghost use mathlib.Core.Path.{_≡_};
 ghost use Prim.Native.Nat.{_≤_, _<_};
 ghost use lib.ListN.{length};
 ghost use Rattle.model.specs.Lists.{allBelow};
-ghost use Rattle.model.specs.Threads.{senders};
+ghost use Rattle.model.specs.Queues.{senders};
 ghost use Rattle.model.specs.WellFormed.{wellFormed};
 ghost use Rattle.wellformed.specs.Links.{numberAt, pointsBack, chainEnds, linkFits};
 ghost use Rattle.wellformed.specs.Waiting.{EnteredOrNot};

@@ -6,7 +6,7 @@ use native.Mathlib.Omega.{arith}
 use lib.ListN.{length, take, drop, replicate, length-drop}
 use lib.Seq.{length-take-le, drop-drop, take-take, sets-eq}
 use borrow.Rule.Slice.PartMut.{midOf, putMid}
-use Rattle.model.specs.Threads.{wordsAt, zeroed}
+use Rattle.model.specs.Store.{wordsAt, zeroed}
 
 -- the slice from place a to place a + k is k long
 slice-length : (a k : ℕ) → a + k - a ≡ k

@@ -2,7 +2,7 @@
 ghost use mathlib.Core.Path.{_≡_};
 ghost use Prim.Native.Nat.{_+_, _*_, _≤_};
 ghost use lib.ListN.{length, take, replicate};
-ghost use Rattle.model.specs.Threads.{wordsAt, zeroed};
+ghost use Rattle.model.specs.Store.{wordsAt, zeroed};
 
 // How many words a thread has.
 const WORDS: usize = 8;

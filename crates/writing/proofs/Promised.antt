@@ -12,7 +12,9 @@ use Rattle.model.specs.declared.Answer.the-variants.{Refused, Accepted}
 use Rattle.model.specs.declared.Record.{Record}
 use Rattle.model.specs.Lists.{allOf}
 use Rattle.model.specs.Refusals.{firstRefusal, unless}
-use Rattle.model.specs.Schedule.{beginKind, recordLength, kindByte, lawful, front, encode, lawfulRecord, unwritable, encodeRefusal, encodeAnswer, encodeBuffer, EncodePromise}
+use Rattle.model.specs.RecordBytes.{beginKind, recordLength, kindByte, lawful}
+use Rattle.model.specs.Decoding.{front}
+use Rattle.model.specs.Encoding.{encode, lawfulRecord, unwritable, encodeRefusal, encodeAnswer, encodeBuffer, EncodePromise}
 use Rattle.model.proofs.Laws.{by}
 use Rattle.writing.specs.Spelled.{spelled, isBare}
 

@@ -7,7 +7,7 @@ use native.Mathlib.Omega.{arith}
 use lib.ListN.{length, getD, take, drop, set, length-append, take-append-drop, drop-of-length-le}
 use lib.Seq.{sets-eq, length-take-le, take-all, take-at, drop-append-add, drop-drop}
 use Rattle.model.specs.Lists.{concat}
-use Rattle.model.specs.Schedule.{wordBytes}
+use Rattle.model.specs.Encoding.{wordBytes}
 
 -- ---- one word
 -- it has four bytes

@@ -6,7 +6,8 @@ use lib.ListN.{drop}
 use lib.Dec.{eqb}
 use Rattle.model.specs.declared.Record.{Record}
 use Rattle.model.specs.Lists.{implies}
-use Rattle.model.specs.Schedule.{beginKind, operationBytes, allZero}
+use Rattle.model.specs.RecordBytes.{beginKind}
+use Rattle.model.specs.Encoding.{operationBytes, allZero}
 
 -- a record as if it were a begin: its head, and the bytes of its operation
 unfoldable pub spelled : Record → List ℕ

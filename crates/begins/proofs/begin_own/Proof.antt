@@ -1,6 +1,6 @@
 use Rattle.laws.proofs.Lists.{cond-true, cond-false}
 use borrow.Author.Tests.{not-true, not-false, lt-ltb, le-ltb}
-use Rattle.model.specs.Threads.{lock, look}
+use Rattle.model.specs.Phases.{lock, look}
 use mathlib.Core.Path.{refl, sym, _∙_}
 use borrow.Author.Needs.{needs}
 use Rattle.begins.specs.Begun.{ownBegun}

@@ -1,5 +1,5 @@
 use mathlib.Core.Path.{sym, _∙_}
-use Rattle.model.specs.Threads.{lockHeld}
+use Rattle.model.specs.Locks.{lockHeld}
 use Rattle.laws.proofs.Lists.{cond-true, cond-false}
 use Rattle.clauses.proofs.Held.{lock-held-by}
 use Rattle.clauses.proofs.lock_held.Statement.{statement}

@@ -1,7 +1,7 @@
 use borrow.Author.Needs.{needs}
 use borrow.Author.Tests.{not-true, not-false}
 use Rattle.model.specs.Lists.{implies}
-use Rattle.model.specs.Shared.{tickCount, isLeft}
+use Rattle.model.specs.Times.{tickCount, isLeft}
 use Rattle.laws.proofs.Tests.{all-joined}
 use Rattle.formed.proofs.Own.{operationFits}
 use Rattle.clauses.proofs.operation_fits.Statement.{statement}

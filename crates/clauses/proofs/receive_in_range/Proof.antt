@@ -1,5 +1,5 @@
 use borrow.Author.Needs.{needs}
-use Rattle.model.specs.Shared.{isTimeCode}
+use Rattle.model.specs.Times.{isTimeCode}
 use Rattle.model.specs.WellFormed.{receiveInRange}
 use Rattle.laws.proofs.Tests.{all-joined}
 use Rattle.clauses.proofs.receive_in_range.Statement.{statement}

@@ -1,6 +1,6 @@
 use mathlib.Core.Bool.{and-true, and-assoc}
 use Rattle.model.specs.Lists.{implies, allOf}
-use Rattle.model.specs.Shared.{isTimeCode}
+use Rattle.model.specs.Times.{isTimeCode}
 use Rattle.model.specs.WellFormed.{sendInRange}
 use Rattle.clauses.proofs.send_in_range.Statement.{statement}
 use Rattle.clauses.proofs.send_in_range.Tie as tie

@@ -2,9 +2,10 @@ use mathlib.Core.Path.{refl, ap, _∙_}
 use lib.IntN.{ℤ}
 use mir.Facts.{toZ-ofZ}
 use borrow.Author.Needs.{needs}
-use Rattle.model.specs.Shared.{codeOnly}
+use Rattle.model.specs.Codes.{codeOnly}
 use Rattle.model.specs.Step.{ownAfter, otherAfter}
-use Rattle.model.specs.Threads.{idle, entering, ended}
+use Rattle.model.specs.Phases.{idle}
+use Rattle.model.specs.Threads.{entering, ended}
 use Rattle.model.specs.declared.Thread.{Thread}
 use Rattle.endings.proofs.abort_receive.Statement.{statement}
 use Rattle.endings.proofs.abort_receive.Tie as tie

@@ -2,9 +2,10 @@ use mathlib.Core.Path.{_∙_, ap}
 use lib.IntN.{ℤ}
 use mir.Facts.{toZ-ofZ}
 use borrow.Author.Needs.{needs}
-use Rattle.model.specs.Shared.{codeOnly}
+use Rattle.model.specs.Codes.{codeOnly}
 use Rattle.model.specs.Step.{ownAfter, otherAfter}
-use Rattle.model.specs.Threads.{release, entering, ended, withoutReceive}
+use Rattle.model.specs.Phases.{release}
+use Rattle.model.specs.Threads.{entering, ended, withoutReceive}
 use Rattle.model.specs.declared.Thread.{Thread}
 use Rattle.endings.proofs.abort_send.Statement.{statement}
 use Rattle.endings.proofs.abort_send.Tie as tie

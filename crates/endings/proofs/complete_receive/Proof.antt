@@ -1,9 +1,10 @@
 use mathlib.Core.Path.{_∙_, sym, ap}
 use Prim.Native.Nat.{ℕ}
 use borrow.Author.Needs.{needs}
-use Rattle.model.specs.Shared.{done}
+use Rattle.model.specs.Codes.{done}
 use Rattle.model.specs.Step.{received}
-use Rattle.model.specs.Threads.{ended, departed}
+use Rattle.model.specs.Threads.{ended}
+use Rattle.model.specs.Queues.{departed}
 use Rattle.model.specs.declared.Thread.{Thread}
 use Rattle.endings.proofs.complete_receive.Statement.{statement}
 use Rattle.endings.proofs.complete_receive.Tie as tie

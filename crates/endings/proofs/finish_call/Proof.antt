@@ -1,9 +1,10 @@
 use mathlib.Core.Path.{refl, _∙_, ap}
 use Prim.Native.Nat.{ℕ}
 use borrow.Author.Needs.{needs}
-use Rattle.model.specs.Shared.{tickCount}
+use Rattle.model.specs.Times.{tickCount}
 use Rattle.model.specs.Step.{ownAfter, otherAfter}
-use Rattle.model.specs.Threads.{release, entering, withLeft, sent}
+use Rattle.model.specs.Phases.{release}
+use Rattle.model.specs.Threads.{entering, withLeft, sent}
 use Rattle.endings.proofs.finish_call.Statement.{statement}
 use Rattle.endings.proofs.finish_call.Tie as tie
 

@@ -1,7 +1,8 @@
 use mathlib.Core.Path.{refl, ap}
 use borrow.Author.Needs.{needs}
 use Rattle.model.specs.Step.{ownAfter, otherAfter}
-use Rattle.model.specs.Threads.{release, entering}
+use Rattle.model.specs.Phases.{release}
+use Rattle.model.specs.Threads.{entering}
 use Rattle.model.specs.declared.Thread.{Thread}
 use Rattle.endings.proofs.finish_send.Statement.{statement}
 use Rattle.endings.proofs.finish_send.Tie as tie

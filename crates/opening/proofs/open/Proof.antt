@@ -1,5 +1,6 @@
 use Rattle.schedule.proofs.Fronts.{lawful-head-long}
-use Rattle.model.specs.Schedule.{front, lawful}
+use Rattle.model.specs.Decoding.{front}
+use Rattle.model.specs.RecordBytes.{lawful}
 use borrow.Author.Tests.{not-true, not-false}
 use native.Mathlib.Omega.{arith}
 use mathlib.Core.Bool.{true, false}

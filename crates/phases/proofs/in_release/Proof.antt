@@ -1,6 +1,6 @@
 use mathlib.Core.Path.{refl}
 use borrow.Author.Needs.{needs}
-use Rattle.model.specs.Threads.{idle, sleep, look}
+use Rattle.model.specs.Phases.{idle, sleep, look}
 use Rattle.laws.proofs.Decisions.{release-sleeps, release-looks, release-ends}
 use Rattle.phases.proofs.Settled.{settled}
 use Rattle.phases.proofs.in_release.Statement.{statement}

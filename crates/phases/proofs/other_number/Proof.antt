@@ -1,6 +1,6 @@
 use mathlib.Core.Path.{sym, _∙_}
 use borrow.Author.Needs.{needs}
-use Rattle.model.specs.Threads.{lock, check, copy, release, look, wake, unlock}
+use Rattle.model.specs.Phases.{lock, check, copy, release, look, wake, unlock}
 use Rattle.laws.proofs.Decided.{other-in}
 use Rattle.laws.proofs.Decisions.{in-number, no-other}
 use Rattle.phases.proofs.other_number.Statement.{statement}

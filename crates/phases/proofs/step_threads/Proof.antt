@@ -2,7 +2,7 @@ use mathlib.Core.Path.{ap, _∙_}
 use native.Mathlib.Omega.{arith}
 use borrow.Author.Needs.{needs}
 use Rattle.model.specs.Step.{decideIn}
-use Rattle.model.specs.Threads.{Phase, idle, lock, check, copy, release, sleep, look, wake, unlock}
+use Rattle.model.specs.Phases.{Phase, idle, lock, check, copy, release, sleep, look, wake, unlock}
 use Rattle.laws.proofs.Decisions.{past-last, in-number}
 use Rattle.phases.proofs.Settled.{settled, settled-in, words-kept, words-copied}
 use Rattle.phases.proofs.step_threads.Statement.{statement}

@@ -1,6 +1,6 @@
 use mathlib.Core.Path.{refl}
 use borrow.Author.Needs.{needs}
-use Rattle.model.specs.Threads.{senders, departed}
+use Rattle.model.specs.Queues.{senders, departed}
 use Rattle.queues.proofs.Laws.{place-there, moved-without}
 use Rattle.queues.specs.Places.{gapClosed}
 use Rattle.queues.proofs.depart.Statement.{statement}

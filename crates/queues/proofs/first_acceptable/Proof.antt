@@ -2,7 +2,7 @@ use mathlib.Core.Path.{_≡_}
 use native.Mathlib.Omega.{arith}
 use lib.ListN.{length}
 use borrow.Author.Needs.{needs}
-use Rattle.model.specs.Threads.{senders, findSender}
+use Rattle.model.specs.Queues.{senders, findSender}
 use Rattle.queues.proofs.Laws.{read-inside, read-past}
 use Rattle.queues.proofs.first_acceptable.Statement.{statement}
 use Rattle.queues.proofs.first_acceptable.Tie as tie

@@ -1,6 +1,6 @@
 use mathlib.Core.Path.{refl}
 use borrow.Author.Needs.{needs}
-use Rattle.model.specs.Threads.{joined}
+use Rattle.model.specs.Queues.{joined}
 use Rattle.queues.proofs.join.Statement.{statement}
 use Rattle.queues.proofs.join.Tie as tie
 

@@ -1,8 +1,8 @@
 use mathlib.Core.Path.{sym, _∙_}
 use Prim.Native.Nat.{_-_}
 use borrow.Author.Needs.{needs}
-use Rattle.model.specs.Shared.{accepts}
-use Rattle.model.specs.Threads.{senders, searchPlace}
+use Rattle.model.specs.Operations.{accepts}
+use Rattle.model.specs.Queues.{senders, searchPlace}
 use Rattle.queues.proofs.Laws.{Searching, search-starts, stops-here, goes-on, stops-at-end}
 use Rattle.queues.proofs.search.Statement.{statement}
 use Rattle.queues.proofs.search.Tie as tie

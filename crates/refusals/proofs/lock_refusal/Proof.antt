@@ -2,7 +2,7 @@ use mathlib.Core.Bool.{not}
 use mathlib.Core.Path.{sym, ap, _∙_}
 use borrow.Author.Needs.{needs}
 use Rattle.model.specs.Refusals.{lockOwned}
-use Rattle.model.specs.Threads.{lockFree}
+use Rattle.model.specs.Locks.{lockFree}
 use Rattle.model.specs.declared.Thread.{Thread}
 use Rattle.refusals.proofs.Laws.{row-as}
 use Rattle.refusals.proofs.lock_refusal.Statement.{statement}

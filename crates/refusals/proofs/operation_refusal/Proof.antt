@@ -4,7 +4,8 @@ use mathlib.Core.Path.{refl, sym, ap, _∙_}
 use Prim.Native.Nat.{ℕ}
 use lib.Dec.{eqb}
 use borrow.Author.Needs.{needs}
-use Rattle.model.specs.Refusals.{neitherPart, withItself, closedBeyond, noPartner, tooManyWords, badTime}
+use Rattle.model.specs.Refusals.{neitherPart, withItself, noPartner, tooManyWords, badTime}
+use Rattle.model.specs.Operations.{closedBeyond}
 use Rattle.refusals.proofs.Laws.{first-joined, row-as, time-row}
 use Rattle.refusals.specs.Rows.{operationRows}
 use Rattle.refusals.proofs.operation_refusal.Statement.{statement}

@@ -4,7 +4,7 @@ use native.Mathlib.Omega.{arith}
 use denote.Ref.{now}
 use borrow.Author.Tests.{not-true, not-false}
 use borrow.Author.Needs.{needs}
-use Rattle.model.specs.Schedule.{kindByte}
+use Rattle.model.specs.RecordBytes.{kindByte}
 use Rattle.schedule.specs.Heads.{lawfulHead}
 use Rattle.schedule.proofs.Fronts.{record-head, record-begin, lawful-cut, lawful-no-head, lawful-other, lawful-whole}
 use Rattle.schedule.proofs.is_lawful.Statement.{statement}

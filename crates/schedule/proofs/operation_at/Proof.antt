@@ -1,5 +1,5 @@
 use borrow.Author.Needs.{needs}
-use Rattle.model.specs.Schedule.{operationOf}
+use Rattle.model.specs.Decoding.{operationOf}
 use Rattle.schedule.proofs.operation_at.Statement.{statement}
 use Rattle.schedule.proofs.operation_at.Tie as tie
 

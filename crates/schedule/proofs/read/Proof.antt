@@ -4,7 +4,8 @@ use native.Mathlib.Omega.{arith}
 use denote.Ref.{now}
 use borrow.Author.Tests.{not-true, not-false}
 use borrow.Author.Needs.{needs}
-use Rattle.model.specs.Schedule.{lawful, front}
+use Rattle.model.specs.RecordBytes.{lawful}
+use Rattle.model.specs.Decoding.{front}
 use Rattle.schedule.proofs.Reading.{bare-read, begin-read, refused-read, accepted-read}
 use Rattle.schedule.proofs.Fronts.{lawful-head-long, lawful-begin-long}
 use Rattle.schedule.proofs.read.Statement.{statement}

@@ -1,5 +1,5 @@
 use borrow.Author.Tests.{eq-eqb, ne-eqb}
-use Rattle.model.specs.Schedule.{recordLength}
+use Rattle.model.specs.RecordBytes.{recordLength}
 use Rattle.schedule.proofs.record_length.Statement.{statement}
 use Rattle.schedule.proofs.record_length.Tie as tie
 

@@ -2,7 +2,7 @@ use mathlib.Core.Path.{ap, _∙_}
 use lib.IntN.{ℤ}
 use mir.Facts.{toZ-ofZ}
 use borrow.Author.Needs.{needs}
-use Rattle.model.specs.Shared.{codeOnly}
+use Rattle.model.specs.Codes.{codeOnly}
 use Rattle.model.specs.Threads.{ended}
 use Rattle.model.specs.declared.Outcome.{Outcome}
 use Rattle.threads.proofs.end_with_code.Statement.{statement}

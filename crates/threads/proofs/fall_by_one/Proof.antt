@@ -1,6 +1,6 @@
 use borrow.Author.Needs.{needs}
 use borrow.Author.Tests.{eq-eqb, ne-eqb}
-use Rattle.model.specs.Shared.{fall}
+use Rattle.model.specs.Times.{fall}
 use Rattle.threads.proofs.fall_by_one.Statement.{statement}
 use Rattle.threads.proofs.fall_by_one.Tie as tie
 

@@ -1,5 +1,5 @@
 use mir.Facts.{toZ-ofZ}
-use Rattle.model.specs.Shared.{isFailure}
+use Rattle.model.specs.Codes.{isFailure}
 use Rattle.threads.proofs.is_failure.Statement.{statement}
 use Rattle.threads.proofs.is_failure.Tie as tie
 

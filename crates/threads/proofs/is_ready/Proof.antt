@@ -1,5 +1,5 @@
 use borrow.Author.Needs.{needs}
-use Rattle.model.specs.Threads.{ready}
+use Rattle.model.specs.Queues.{ready}
 use Rattle.laws.proofs.Tests.{all-joined}
 use Rattle.threads.proofs.is_ready.Statement.{statement}
 use Rattle.threads.proofs.is_ready.Tie as tie

@@ -3,7 +3,7 @@ use Prim.Native.Nat.{_≤_}
 use native.Mathlib.Omega.{arith}
 use lib.ListN.{length, List·getD-eq-default}
 use borrow.Author.Needs.{needs}
-use Rattle.model.specs.Shared.{tickCounts, tickCount}
+use Rattle.model.specs.Times.{tickCounts, tickCount}
 use Rattle.threads.proofs.tick_count.Statement.{statement}
 use Rattle.threads.proofs.tick_count.Tie as tie
 

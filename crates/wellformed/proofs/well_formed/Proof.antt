@@ -5,7 +5,8 @@ use Prim.Native.Nat.{_≤_, _<_, _-_}
 use native.Mathlib.Omega.{arith}
 use borrow.Author.Needs.{needs}
 use borrow.Author.Tests.{not-true, not-false}
-use Rattle.model.specs.Threads.{at, ready}
+use Rattle.model.specs.Threads.{at}
+use Rattle.model.specs.Queues.{ready}
 use Rattle.model.specs.WellFormed.{Shaped}
 use Rattle.formed.proofs.Own.{Own}
 use Rattle.formed.proofs.Facts.{queue-small}

@@ -3,7 +3,7 @@ use Prim.Native.Nat.{_-_, _≤_}
 use lib.ListN.{length, drop, drop-of-length-le}
 use denote.Ref.{now}
 use borrow.Author.Needs.{needs}
-use Rattle.model.specs.Schedule.{allZero}
+use Rattle.model.specs.Encoding.{allZero}
 use Rattle.writing.proofs.Copies.{zero-passed, zero-not}
 use Rattle.writing.proofs.all_zero.Statement.{statement}
 use Rattle.writing.proofs.all_zero.Tie as tie

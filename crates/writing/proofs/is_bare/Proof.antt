@@ -6,7 +6,7 @@ use lib.ListN.{length, drop, length-drop}
 use denote.Ref.{now}
 use borrow.Author.Tests.{eq-eqb, ne-eqb}
 use borrow.Author.Needs.{needs}
-use Rattle.model.specs.Schedule.{allZero}
+use Rattle.model.specs.Encoding.{allZero}
 use Rattle.model.specs.Lists.{implies}
 use Rattle.writing.specs.Spelled.{isBare}
 use Rattle.writing.proofs.is_bare.Statement.{statement}

@@ -1,5 +1,5 @@
 use borrow.Author.Needs.{needs}
-use Rattle.model.specs.Schedule.{partsOf}
+use Rattle.model.specs.Encoding.{partsOf}
 use Rattle.writing.proofs.parts_of.Statement.{statement}
 use Rattle.writing.proofs.parts_of.Tie as tie
 

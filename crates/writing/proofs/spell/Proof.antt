@@ -1,6 +1,6 @@
 use mathlib.Core.Path.{_∙_}
 use borrow.Author.Needs.{needs}
-use Rattle.model.specs.Schedule.{operationBytes}
+use Rattle.model.specs.Encoding.{operationBytes}
 use Rattle.writing.specs.Spelled.{spelled}
 use Rattle.writing.proofs.spell.Statement.{statement}
 use Rattle.writing.proofs.spell.Tie as tie

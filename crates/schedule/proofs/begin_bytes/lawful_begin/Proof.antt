@@ -1,6 +1,6 @@
 use denote.Ref.{now}
 use borrow.Author.Needs.{needs}
-use Rattle.model.specs.Schedule.{partsByte, sendBit, lawfulBegin}
+use Rattle.model.specs.RecordBytes.{partsByte, sendBit, lawfulBegin}
 use Rattle.schedule.proofs.Begins.{begin-joined}
 use Rattle.schedule.proofs.begin_bytes.lawful_begin.Statement.{statement}
 use Rattle.schedule.proofs.begin_bytes.lawful_begin.Tie as tie

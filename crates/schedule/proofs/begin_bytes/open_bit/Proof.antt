@@ -1,5 +1,5 @@
 use mathlib.Core.Path.{refl}
-use Rattle.model.specs.Schedule.{openBit}
+use Rattle.model.specs.RecordBytes.{openBit}
 use Rattle.schedule.proofs.begin_bytes.open_bit.Statement.{statement}
 use Rattle.schedule.proofs.begin_bytes.open_bit.Tie as tie
 

@@ -3,7 +3,7 @@ use mathlib.Core.Bool.{true}
 use denote.Ref.{now}
 use borrow.Author.Tests.{not-true, not-false}
 use borrow.Author.Needs.{needs}
-use Rattle.model.specs.Schedule.{partsByte, receiveBit}
+use Rattle.model.specs.RecordBytes.{partsByte, receiveBit}
 use Rattle.schedule.proofs.begin_bytes.receive_at.Statement.{statement}
 use Rattle.schedule.proofs.begin_bytes.receive_at.Tie as tie
 

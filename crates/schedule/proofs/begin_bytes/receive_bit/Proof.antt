@@ -1,5 +1,5 @@
 use mathlib.Core.Path.{refl}
-use Rattle.model.specs.Schedule.{receiveBit}
+use Rattle.model.specs.RecordBytes.{receiveBit}
 use Rattle.schedule.proofs.begin_bytes.receive_bit.Statement.{statement}
 use Rattle.schedule.proofs.begin_bytes.receive_bit.Tie as tie
 

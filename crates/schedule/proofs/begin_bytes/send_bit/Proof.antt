@@ -1,5 +1,5 @@
 use mathlib.Core.Path.{refl}
-use Rattle.model.specs.Schedule.{sendBit}
+use Rattle.model.specs.RecordBytes.{sendBit}
 use Rattle.schedule.proofs.begin_bytes.send_bit.Statement.{statement}
 use Rattle.schedule.proofs.begin_bytes.send_bit.Tie as tie
 

@@ -2,7 +2,7 @@ use mathlib.Core.Path.{_≡_}
 use Prim.Native.Nat.{ℕ, _+_, _*_}
 use native.Mathlib.Omega.{arith}
 use borrow.Author.Needs.{needs}
-use Rattle.model.specs.Schedule.{wordAt}
+use Rattle.model.specs.RecordBytes.{wordAt}
 use Rattle.schedule.proofs.begin_bytes.word_at.Statement.{statement}
 use Rattle.schedule.proofs.begin_bytes.word_at.Tie as tie
 

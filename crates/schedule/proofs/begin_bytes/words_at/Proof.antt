@@ -5,7 +5,7 @@ use native.Mathlib.Numerals.{add-one}
 use lib.Seq.{take-suc-set, take-all}
 use lib.ListN.{length, take}
 use borrow.Author.Needs.{needs}
-use Rattle.model.specs.Schedule.{wordAt}
+use Rattle.model.specs.RecordBytes.{wordAt}
 use Rattle.model.specs.Lists.{upTo}
 use Rattle.schedule.proofs.begin_bytes.words_at.Statement.{statement}
 use Rattle.schedule.proofs.begin_bytes.words_at.Tie as tie
