@@ -6,8 +6,7 @@ use Rattle.model.specs.declared.Thread.{Thread}
 use Rattle.model.specs.Lists.{allOf}
 use Rattle.model.specs.Codes.{nobody}
 use Rattle.model.specs.Operations.{hasReceive}
-use Rattle.formed.proofs.Flags.{flagsFit}
-use Rattle.formed.proofs.Own.{outcomeFits, operationFits, phaseFits, queueFits}
+use Rattle.formed.specs.Groups.{flagsFit, outcomeFits, operationFits, phaseFits, queueFits}
 
 -- thread x, which is h, in a table of n threads: the groups of clauses on one thread
 unfoldable pub ownFits : ℕ → ℕ → Thread → Bool

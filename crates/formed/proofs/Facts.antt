@@ -10,11 +10,12 @@ use Rattle.model.specs.declared.Thread.{Thread}
 use Rattle.model.specs.Lists.{implies}
 use Rattle.model.specs.Operations.{wordLimit}
 use Rattle.model.specs.Times.{isTimeCode}
-use Rattle.model.specs.Phases.{copy, release, wake, unlock}
+use Rattle.model.specs.Phases.{copy, release, wake, unlock, isOneOf}
 use Rattle.model.specs.WellFormed.{sendInRange}
 use Rattle.model.proofs.Laws.{and-left, and-right, implies-read, all-of-read, All}
-use Rattle.formed.proofs.Flags.{cases, isOneOf, told-any}
-use Rattle.formed.proofs.Own.{operationFits, phaseFits, queueFits, Own}
+use Rattle.formed.proofs.Flags.{cases, told-any}
+use Rattle.formed.specs.Groups.{operationFits, phaseFits, queueFits}
+use Rattle.formed.proofs.Own.{Own}
 
 -- a thread of the table, and not x
 pub record Other (n x r : ℕ) : Type 0 where

@@ -1,39 +1,17 @@
 -- The clauses on a thread's phase and flags as one test. There are few flags and phases, so what follows from it is computed.
 use mathlib.Core.Path.{_≡_, refl}
-use mathlib.Core.Bool.{Bool, true, false, not, _&&_, _||_, Bool·beq}
-use mathlib.Core.List.{List, [], _∷_}
+use mathlib.Core.Bool.{Bool, true, false, _&&_}
 use Prim.Native.Nat.{ℕ, _≤_}
 use native.Mathlib.Omega.{arith}
 use lib.ListN.{length}
-use lib.Dec.{eqb, leb}
 use borrow.Author.Tests.{leb-true}
 use Rattle.model.specs.declared.Flags.{Flags}
 use Rattle.model.specs.declared.Thread.{Thread}
 use Rattle.model.specs.Lists.{implies, allOf, allBelow}
 use Rattle.model.specs.Operations.{hasReceive}
-use Rattle.model.specs.Phases.{phases, Phase, idle, lock, check, copy, release, sleep, look, wake, unlock, phaseNumber}
+use Rattle.model.specs.Phases.{phases, Phase, phaseNumber, isOneOf}
 use Rattle.model.proofs.Laws.{and-left, and-right, implies-read, all-of-read, all-below-read}
-
--- the number k is that of one of these phases
-unfoldable pub isOneOf : List Phase → ℕ → Bool
-isOneOf [] k = false
-isOneOf (p ∷ ps) k = eqb k (phaseNumber p) || isOneOf ps k
-
--- phase k and the flags v go together, in an operation with a receive part and a send part or without
-unfoldable pub flagsFit : ℕ → Flags → Bool → Bool → Bool
-flagsFit k v receives sends = allOf (
-    leb k 8
-    ∷ implies (v .send || v .mark) (v .ipc)
-    ∷ implies (v .poll) (v .send)
-    ∷ Bool·beq (v .receiving) (v .ipc && receives)
-    ∷ implies (v .ipc && not (v .send)) receives
-    ∷ implies (isOneOf (idle ∷ []) k) (not (v .ipc || v .send || v .receiving || v .poll || v .mark))
-    ∷ implies (isOneOf (look ∷ wake ∷ unlock ∷ []) k) (not (v .send))
-    ∷ implies (isOneOf (lock ∷ check ∷ copy ∷ sleep ∷ []) k) (v .send)
-    ∷ implies (v .send) sends
-    ∷ implies (isOneOf (release ∷ []) k) sends
-    ∷ []
-    )
+use Rattle.formed.specs.Groups.{flagsFit}
 
 -- a thread's flags fit its phase
 abbrev pub FlagsFit : Thread → Type 0

@@ -1,25 +1,25 @@
 -- A well-formed table over the function of its threads: the clauses between threads by six readings, those on one thread grouped.
 use mathlib.Core.Path.{_≡_}
-use mathlib.Core.Bool.{true, cond}
+use mathlib.Core.Bool.{true}
 use mathlib.Core.List.{[], _∷_}
 use Prim.Native.Nat.{ℕ, _≤_, _<_}
 use native.Mathlib.Omega.{arith}
 use Rattle.model.specs.declared.Thread.{Thread}
 use Rattle.model.specs.declared.Table.{Table}
-use Rattle.model.specs.Codes.{nobody}
-use Rattle.model.specs.Phases.{copy, phaseOf}
+use Rattle.model.specs.Phases.{copy, phaseOf, isOneOf}
 use Rattle.model.specs.Threads.{at}
 use Rattle.model.specs.Queues.{senders, ready}
 use Rattle.model.specs.Locks.{lockHeld}
-use Rattle.model.specs.WellFormed.{sizeInRange, inPhase, sendsTo, ownerOf, copiesToReady, Shaped, WellFormed}
+use Rattle.model.specs.WellFormed.{sizeInRange, inPhase, sendsTo, ownerOf, copiesToReady, Shaped, WellFormed, within}
 use Rattle.model.proofs.Laws.{by, implies-read, implies-made}
 use Rattle.model.proofs.Numbers.{size-read}
-use Rattle.formed.proofs.Flags.{cases, isOneOf}
+use Rattle.formed.proofs.Flags.{cases}
 use Rattle.formed.proofs.Own.{Own, OwnClauses, own-grouped, own-ungrouped}
 use Rattle.formed.proofs.Facts.{copy-sends, target-other}
-use Rattle.formed.proofs.Locks.{Owners, within, Chains}
+use Rattle.formed.proofs.Locks.{Owners, Chains}
 use Rattle.formed.proofs.Queues.{Queues}
 use Rattle.formed.proofs.Copies.{Copies}
+use Rattle.formed.specs.Groups.{copiesTo}
 
 -- a reading of every thread
 abbrev pub of {ℓ} : {A : Type ℓ} → (Thread → A) → (ℕ → Thread) → ℕ → A
@@ -28,10 +28,6 @@ of P T y = P (T y)
 -- the owner of a thread's lock
 abbrev pub owner : Thread → ℕ
 owner h = h .owner
-
--- the thread to which a thread copies, or nobody
-unfoldable pub copiesTo : Thread → ℕ
-copiesTo h = cond (isOneOf (copy ∷ []) (h .phase)) (h .op .send .target) nobody
 
 -- opens the six readings of a thread on which the clauses between threads depend
 unfoldable pub readings : ℕ

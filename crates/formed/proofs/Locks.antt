@@ -1,24 +1,18 @@
 -- The clauses on locks and on chains of lock owners, over functions of thread numbers: what taking a lock and freeing it leave of them.
 use mathlib.Core.Path.{_≡_, refl, sym, ap, _∙_, subst, fun-ext}
 use mathlib.Core.Logic.{_≢_, _↔_, _⊎_, inl, inr, ⊎-elim}
-use mathlib.Core.Bool.{cond}
 use Prim.Native.Nat.{ℕ, zero, suc, _≤_, _<_}
 use native.Mathlib.Omega.{arith}
-use lib.Dec.{ltb}
 use borrow.Author.Tests.{lt-ltb, le-ltb}
 use Rattle.model.specs.Lists.{update}
 use Rattle.model.specs.Codes.{nobody}
-use Rattle.model.specs.WellFormed.{chain}
+use Rattle.model.specs.WellFormed.{chain, within}
 use Rattle.model.proofs.Laws.{same?}
 use Rattle.laws.proofs.Lists.{update-same, update-other}
 
 -- a lock's owner is exactly the thread that holds it
 abbrev pub Owners : ℕ → (ℕ → ℕ) → (ℕ → ℕ) → Type 0
 Owners n owner holds = (r o : ℕ) → r < n → o < n → (owner r ≡ o) ↔ (holds o ≡ r)
-
--- the owner of a thread of the table; of no thread, nobody
-unfoldable pub within : ℕ → (ℕ → ℕ) → ℕ → ℕ
-within n owner r = cond (ltb r n) (owner r) nobody
 
 -- no chain of lock owners comes back to its start
 abbrev pub Chains : ℕ → (ℕ → ℕ) → Type 0

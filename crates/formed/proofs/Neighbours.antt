@@ -12,7 +12,7 @@ use Rattle.model.specs.declared.Thread.{Thread}
 use Rattle.model.specs.Lists.{bit, occurs, implies, update}
 use Rattle.model.specs.Codes.{nobody}
 use Rattle.model.specs.Operations.{hasReceive}
-use Rattle.model.specs.Phases.{idle, look, Phase, lock, check, copy, release, wake, unlock, phaseOf, phaseNumber}
+use Rattle.model.specs.Phases.{idle, look, Phase, lock, check, copy, release, wake, unlock, phaseOf, phaseNumber, isOneOf}
 use Rattle.model.specs.Queues.{senders, ready}
 use Rattle.model.specs.Locks.{lockHeldIn}
 use Rattle.model.specs.WellFormed.{sendsTo}
@@ -20,10 +20,11 @@ use Rattle.model.proofs.Laws.{by, same?, and-left, and-right, few-enough}
 use Rattle.laws.proofs.Lists.{bit-small}
 use Rattle.laws.proofs.Phases.{phase-number, lock-held-in}
 use Rattle.laws.proofs.Queues.{sends-to, sends-nowhere, senders-length}
-use Rattle.formed.proofs.Flags.{cases, Implied, isOneOf, told, phase-small, FlagTest, told-if}
+use Rattle.formed.proofs.Flags.{cases, Implied, told, phase-small, FlagTest, told-if}
 use Rattle.formed.proofs.Facts.{Other, target-other, queue-small, target-below, woken-below}
 use Rattle.formed.proofs.Locks.{not-own-owner}
-use Rattle.formed.proofs.Formed.{Formed, copiesTo, of}
+use Rattle.formed.specs.Groups.{copiesTo}
+use Rattle.formed.proofs.Formed.{Formed, of}
 
 module _ {n : ℕ} {T : ℕ → Thread} (F : Formed n T) where
   -- 255 is no thread of the table

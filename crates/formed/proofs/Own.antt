@@ -1,59 +1,14 @@
 -- The clauses on one thread by itself, grouped by what changes together.
 use mathlib.Core.Path.{_≡_}
-use mathlib.Core.Bool.{Bool, true, not, _&&_, _||_, Bool·beq}
-use mathlib.Core.List.{[], _∷_}
+use mathlib.Core.Bool.{true}
 use Prim.Native.Nat.{ℕ}
 use lib.ListN.{length}
-use lib.Dec.{eqb, leb, ltb}
-use Rattle.model.specs.declared.SendPart.{SendPart}
-use Rattle.model.specs.declared.Operation.{Operation}
-use Rattle.model.specs.declared.Queue.{Queue}
-use Rattle.model.specs.declared.Outcome.{Outcome}
 use Rattle.model.specs.declared.Thread.{Thread}
-use Rattle.model.specs.Lists.{implies, allOf}
-use Rattle.model.specs.Codes.{done, running, codes, sameCode, nobody}
-use Rattle.model.specs.Operations.{wordLimit, closedOn}
-use Rattle.model.specs.Times.{isLeft}
-use Rattle.model.specs.Phases.{copy, release, wake, unlock}
-use Rattle.model.specs.WellFormed.{inPhase, isCode, nobodyOrBelow, sendInRange, receiveInRange, numbersInRange, ipcWithRunning, bareUnlessDone, notWithItself, sendAndMarkWithIpc, pollWithSend, receivingWithPart, ipcWithoutSend, idleWithoutFlags, releaseHasTarget, receiversSendClear, sendersSendSet}
+use Rattle.model.specs.Phases.{isOneOf}
+use Rattle.model.specs.WellFormed.{inPhase, numbersInRange, ipcWithRunning, bareUnlessDone, notWithItself, sendAndMarkWithIpc, pollWithSend, receivingWithPart, ipcWithoutSend, idleWithoutFlags, releaseHasTarget, receiversSendClear, sendersSendSet}
 use Rattle.model.proofs.Laws.{_and_, all-of-read, all-of-made}
-use Rattle.formed.proofs.Flags.{isOneOf, flagsFit, FlagsFit}
-
--- the outcome, in a table of n threads, of a thread with `ipc` as given
-unfoldable pub outcomeFits : ℕ → Bool → Outcome → Bool
-outcomeFits n ipc u = allOf (
-    isCode codes (u .code)
-    ∷ nobodyOrBelow n (u .source)
-    ∷ leb (u .count) wordLimit
-    ∷ Bool·beq ipc (sameCode running (u .code))
-    ∷ (sameCode done (u .code) || eqb (u .source) nobody && eqb (u .count) 0)
-    ∷ []
-    )
-
--- the operation and `left` of thread x
-unfoldable pub operationFits : ℕ → ℕ → Bool → Operation → ℕ → Bool
-operationFits n x ipc o left = allOf (
-    implies ipc (sendInRange n (o .send))
-    ∷ implies ipc (receiveInRange n (o .receive))
-    ∷ implies ipc (isLeft left)
-    ∷ implies (ipc && o .send .present) (not (eqb (o .send .target) x))
-    ∷ implies ipc (not (closedOn (o .receive) x))
-    ∷ []
-    )
-
--- the numbers that phase k uses: the target that is freed, the words copied, the sender being woken
-unfoldable pub phaseFits : ℕ → ℕ → ℕ → SendPart → ℕ → ℕ → Bool
-phaseFits n x k part copied waking = allOf (
-    implies (isOneOf (release ∷ []) k) (ltb (part .target) n)
-    ∷ implies (isOneOf (release ∷ []) k) (not (eqb (part .target) x))
-    ∷ implies (isOneOf (copy ∷ []) k) (leb copied (part .count))
-    ∷ implies (isOneOf (wake ∷ unlock ∷ []) k) (ltb waking n)
-    ∷ []
-    )
-
--- the queue and the lock
-unfoldable pub queueFits : ℕ → Queue → ℕ → Bool
-queueFits n queue owner = allOf (leb (queue .len) 32 ∷ nobodyOrBelow n owner ∷ [])
+use Rattle.formed.specs.Groups.{flagsFit, outcomeFits, operationFits, phaseFits, queueFits}
+use Rattle.formed.proofs.Flags.{FlagsFit}
 
 -- thread x, which is h, is well-formed by itself
 pub record Own (n x : ℕ) (h : Thread) : Type 0 where

@@ -9,15 +9,14 @@ use Rattle.model.specs.declared.Outcome.{Outcome}
 use Rattle.model.specs.declared.Thread.{Thread}
 use Rattle.model.specs.Codes.{running, sameCode, nobody}
 use Rattle.model.specs.Operations.{wordLimit}
-use Rattle.model.specs.Phases.{copy, phaseOf}
+use Rattle.model.specs.Phases.{copy, phaseOf, isOneOf}
 use Rattle.model.specs.Queues.{ready}
 use Rattle.model.proofs.Laws.{and-right, alike-read, all-of-read}
 use Rattle.laws.proofs.Ready.{ready-read}
 use Rattle.laws.proofs.Codes.{code-is}
-use Rattle.formed.proofs.Flags.{isOneOf}
-use Rattle.formed.proofs.Own.{outcomeFits}
+use Rattle.formed.specs.Groups.{outcomeFits, copiesTo}
 use Rattle.formed.proofs.Facts.{count-small}
-use Rattle.formed.proofs.Formed.{Formed, copiesTo}
+use Rattle.formed.proofs.Formed.{Formed}
 use Rattle.formed.proofs.Neighbours.{target-in-copy, copies-in, copier, sends-in-copy}
 
 -- the count of a thread that runs is 0

@@ -15,14 +15,15 @@ use Rattle.model.specs.Lists.{implies, allOf, occurs}
 use Rattle.model.specs.Times.{isLeft}
 use Rattle.model.specs.Codes.{done, nobody, codes, sameCode, codeOnly, running}
 use Rattle.model.specs.Operations.{wordLimit}
-use Rattle.model.specs.Phases.{Phase, phaseNumber, copy, release, wake, unlock}
+use Rattle.model.specs.Phases.{Phase, phaseNumber, copy, release, wake, unlock, isOneOf}
 use Rattle.model.specs.Threads.{noFlags, entering, withOwner, polled, ended}
 use Rattle.model.specs.Queues.{senders, joined, departed}
 use Rattle.model.specs.WellFormed.{isCode, nobodyOrBelow}
 use Rattle.model.proofs.Laws.{implies-read, implies-made, _and_, all-of-read, all-of-made}
 use Rattle.laws.proofs.Queues.{departed-length, joined-length}
-use Rattle.formed.proofs.Flags.{cases, flagsFit, FlagsFit, told-any, told-any-if, isOneOf}
-use Rattle.formed.proofs.Own.{outcomeFits, operationFits, phaseFits, queueFits, Own}
+use Rattle.formed.specs.Groups.{flagsFit, outcomeFits, operationFits, phaseFits, queueFits}
+use Rattle.formed.proofs.Flags.{cases, FlagsFit, told-any, told-any-if}
+use Rattle.formed.proofs.Own.{Own}
 use Rattle.formed.proofs.Facts.{Other, queue-small}
 
 -- ---- numbers

@@ -25,8 +25,9 @@ use Rattle.laws.proofs.Phases.{lock-held-in}
 use Rattle.laws.proofs.Times.{left-from-code, left-falls}
 use Rattle.laws.proofs.Ready.{never-ready}
 use Rattle.laws.proofs.Queues.{senders-joined, silent, sends-nowhere}
-use Rattle.formed.proofs.Flags.{cases, flagsFit, told-any-if, fitsIn}
-use Rattle.formed.proofs.Own.{outcomeFits, operationFits, phaseFits, Own}
+use Rattle.formed.specs.Groups.{flagsFit, outcomeFits, operationFits, phaseFits}
+use Rattle.formed.proofs.Flags.{cases, told-any-if, fitsIn}
+use Rattle.formed.proofs.Own.{Own}
 use Rattle.invariant.proofs.Alone.{operation-left, bare-fits, own-joined, own-ended}
 use Rattle.formed.proofs.Queues.{queues-join}
 use Rattle.formed.proofs.Formed.{owner, readings, of, Formed}

@@ -14,7 +14,8 @@ use Rattle.formed.proofs.Own.{Own}
 use Rattle.formed.proofs.Locks.{Owners, Chains}
 use Rattle.formed.proofs.Queues.{Queues}
 use Rattle.formed.proofs.Copies.{Copies}
-use Rattle.formed.proofs.Formed.{of, owner, copiesTo, Formed}
+use Rattle.formed.specs.Groups.{copiesTo}
+use Rattle.formed.proofs.Formed.{of, owner, Formed}
 
 -- ---- thread r becomes g and then x becomes f
 module _ (T : ℕ → Thread) (x r : ℕ) (f g : Thread) where

@@ -23,12 +23,13 @@ use Rattle.laws.proofs.Ready.{ready-read, never-ready}
 use Rattle.laws.proofs.Queues.{senders-departed, silent, sends-to}
 use Rattle.laws.proofs.Decided.{otherOf, afterAction}
 use Rattle.formed.proofs.Flags.{cases, fitsIn}
-use Rattle.formed.proofs.Own.{phaseFits, Own}
+use Rattle.formed.specs.Groups.{phaseFits, copiesTo}
+use Rattle.formed.proofs.Own.{Own}
 use Rattle.formed.proofs.Facts.{Other, target-other, count-small, queue-small}
 use Rattle.invariant.proofs.Alone.{operation-over, operation-left, release-fits, bare-fits, received-fits, own-departed, own-ended}
 use Rattle.formed.proofs.Queues.{Queues, queues-leave}
 use Rattle.formed.proofs.Copies.{Copies, copies-end, copies-elsewhere}
-use Rattle.formed.proofs.Formed.{owner, copiesTo, readings, of, Formed}
+use Rattle.formed.proofs.Formed.{owner, readings, of, Formed}
 use Rattle.formed.proofs.Neighbours.{quiet-in-look, below-nobody, copies-in, sends-in-check, sends-in-copy, queued-at-target, no-copier, in-phase, in-phase-if, copies-unowned}
 use Rattle.formed.proofs.Receivers.{receiver-ready, copies-alone}
 use Rattle.invariant.proofs.Changed.{kept, here, there, both, formed-changed}

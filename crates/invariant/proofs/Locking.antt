@@ -15,11 +15,12 @@ use Rattle.laws.proofs.Phases.{lock-held-in}
 use Rattle.laws.proofs.Decided.{afterAction}
 use Rattle.laws.proofs.Queues.{sends-nowhere}
 use Rattle.formed.proofs.Flags.{cases, FlagsFit, fitsIn}
-use Rattle.formed.proofs.Own.{phaseFits, Own}
+use Rattle.formed.specs.Groups.{phaseFits, copiesTo}
+use Rattle.formed.proofs.Own.{Own}
 use Rattle.formed.proofs.Facts.{Other}
 use Rattle.invariant.proofs.Alone.{owner-below, woken-fits, own-owner, own-entering}
 use Rattle.formed.proofs.Locks.{Owners, Chains, owners-take, owners-free, chains-take, chains-free}
-use Rattle.formed.proofs.Formed.{owner, copiesTo, readings, of, Formed}
+use Rattle.formed.proofs.Formed.{owner, readings, of, Formed}
 use Rattle.formed.proofs.Neighbours.{target-in-lock, quiet-in-look, below-nobody, copies-in, target-in-release, woken-in-unlock, queued-sends, in-phase, in-phase-if}
 use Rattle.invariant.proofs.Changed.{kept, here, there, formed-changed}
 

@@ -10,10 +10,11 @@ use Rattle.model.specs.Step.{startCopy, toRelease, copyWord, retry, toIdle, cle
 use Rattle.laws.proofs.Phases.{lock-held-in}
 use Rattle.laws.proofs.Decided.{otherOf, afterAction}
 use Rattle.formed.proofs.Flags.{cases, fitsIn}
-use Rattle.formed.proofs.Own.{phaseFits, Own}
+use Rattle.formed.specs.Groups.{phaseFits, copiesTo}
+use Rattle.formed.proofs.Own.{Own}
 use Rattle.invariant.proofs.Alone.{release-fits, copy-fits, woken-fits, own-unpolled, own-entering}
 use Rattle.formed.proofs.Copies.{copies-start}
-use Rattle.formed.proofs.Formed.{owner, copiesTo, readings, of, Formed}
+use Rattle.formed.proofs.Formed.{owner, readings, of, Formed}
 use Rattle.formed.proofs.Neighbours.{target-in-check, number, copies-in, woken-in-wake, in-phase, in-phase-if}
 use Rattle.invariant.proofs.Changed.{kept, here, formed-changed}
 

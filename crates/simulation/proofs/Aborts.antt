@@ -8,15 +8,14 @@ use native.Mathlib.Omega.{arith}
 use lib.IntN.{ℤ}
 use Rattle.model.specs.declared.Thread.{Thread}
 use Rattle.model.specs.Codes.{receiveTimeOver, sendTimeOver, receiveCancelled, sendCancelled, nobody, codeOnly}
-use Rattle.model.specs.Phases.{check, look, phaseOf}
+use Rattle.model.specs.Phases.{check, look, phaseOf, isOneOf}
 use Rattle.model.specs.Queues.{departed, findSender, ready}
 use Rattle.model.specs.Step.{Action, abortSend, abortReceive, ownAfter, otherAfter}
 use Rattle.model.specs.Atomic.{receiving, Machine, aborts, ending, play, CanAbort, cancelledSending, lateSending, cancelledReceiving, lateReceiving}
 use Rattle.laws.proofs.Search.{none-acceptable}
 use Rattle.laws.proofs.Decided.{otherOf, afterAction}
-use Rattle.formed.proofs.Flags.{isOneOf}
 use Rattle.formed.proofs.Facts.{target-other}
-use Rattle.formed.proofs.Formed.{copiesTo}
+use Rattle.formed.specs.Groups.{copiesTo}
 use Rattle.formed.proofs.Neighbours.{quiet-in-look, below-nobody, sends-in-check, sends-queued}
 use Rattle.simulation.proofs.Abstraction.{abstraction, CopiedBy, copies-nowhere}
 use Rattle.simulation.proofs.Leads.{Simulates, Leads, same-store, own-leads}

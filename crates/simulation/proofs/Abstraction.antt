@@ -14,7 +14,7 @@ use Rattle.model.specs.Store.{wordsAt, wordCopied}
 use Rattle.model.specs.Atomic.{Run, nothing, sending, receiving, runs, AtomicThread}
 use Rattle.model.proofs.Laws.{same?}
 use Rattle.laws.proofs.Store.{wordPlace, word-at, word-copied-here, word-copied-elsewhere}
-use Rattle.formed.proofs.Formed.{copiesTo}
+use Rattle.formed.specs.Groups.{copiesTo}
 
 -- what runs in a thread, by its `ipc`, its `send` and its operation
 unfoldable pub runOf : Bool → Bool → Operation → Run

@@ -12,7 +12,7 @@ use Rattle.model.specs.declared.Thread.{Thread}
 use Rattle.model.specs.Lists.{update}
 use Rattle.model.specs.Codes.{nobody, noReceiver, codeOnly}
 use Rattle.model.specs.Operations.{targetBeyond}
-use Rattle.model.specs.Phases.{Phase, idle, lock, look, phaseOf}
+use Rattle.model.specs.Phases.{Phase, idle, lock, look, phaseOf, isOneOf}
 use Rattle.model.specs.Threads.{at, ended}
 use Rattle.model.specs.Queues.{joined}
 use Rattle.model.specs.Store.{wordsAt, zeroed}
@@ -23,8 +23,8 @@ use Rattle.laws.proofs.Store.{words-zeroed-other}
 use Rattle.laws.proofs.Decided.{lock-free-read}
 use Rattle.laws.proofs.Refusals.{AcceptedBegin}
 use Rattle.laws.proofs.Calls.{begin-cases}
-use Rattle.formed.proofs.Flags.{cases, isOneOf}
-use Rattle.formed.proofs.Formed.{copiesTo}
+use Rattle.formed.proofs.Flags.{cases}
+use Rattle.formed.specs.Groups.{copiesTo}
 use Rattle.formed.proofs.Neighbours.{in-phase, copies-in, below-nobody, no-copier}
 use Rattle.simulation.proofs.Abstraction.{abstraction, copies-nowhere, copied-kept}
 use Rattle.simulation.proofs.Leads.{Simulates, Leads, OthersKept, own-leads, alone-leads}

@@ -21,7 +21,7 @@ use Rattle.laws.proofs.Lists.{update-own}
 use Rattle.laws.proofs.Tables.{edit-at, below-at}
 use Rattle.laws.proofs.Refusals.{accepted-begin, accepted-step, accepted-cancel}
 use Rattle.laws.proofs.Calls.{cancel-marks-reply, cancel-nothing-reply, cancel-cases}
-use Rattle.formed.proofs.Formed.{copiesTo}
+use Rattle.formed.specs.Groups.{copiesTo}
 use Rattle.simulation.proofs.Abstraction.{runs-with-ipc, abstraction, CopiedBy}
 use Rattle.simulation.proofs.Leads.{Simulates, Leads, same-store, alone-leads}
 use Rattle.simulation.proofs.Conditions.{runs-alike}

@@ -13,7 +13,7 @@ use Rattle.model.specs.Atomic.{Machine}
 use Rattle.model.proofs.Laws.{same?}
 use Rattle.laws.proofs.Store.{words-copied-other}
 use Rattle.laws.proofs.Decided.{afterAction}
-use Rattle.formed.proofs.Formed.{copiesTo}
+use Rattle.formed.specs.Groups.{copiesTo}
 use Rattle.formed.proofs.Receivers.{copies-to-target, receiver-count, message-short, copies-alone}
 use Rattle.simulation.proofs.Abstraction.{abstraction, copied-kept, copied-more}
 use Rattle.simulation.proofs.Leads.{Simulates, Leads, OthersKept, none-leads}

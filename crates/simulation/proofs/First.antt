@@ -6,8 +6,8 @@ use native.Mathlib.Omega.{arith}
 use Rattle.model.specs.Codes.{nobody}
 use Rattle.model.specs.Threads.{newThread, newTable, at}
 use Rattle.model.specs.Atomic.{firstMachine}
-use Rattle.formed.proofs.Flags.{isOneOf}
-use Rattle.formed.proofs.Formed.{copiesTo}
+use Rattle.model.specs.Phases.{isOneOf}
+use Rattle.formed.specs.Groups.{copiesTo}
 use Rattle.invariant.proofs.New.{new-at}
 use Rattle.simulation.proofs.Abstraction.{abstraction, Copied, copies-nowhere}
 use Rattle.simulation.proofs.Leads.{Like}

@@ -10,16 +10,15 @@ use Rattle.model.specs.declared.Thread.{Thread}
 use Rattle.model.specs.Lists.{update}
 use Rattle.model.specs.Operations.{hasReceive, message}
 use Rattle.model.specs.Codes.{nobody}
-use Rattle.model.specs.Phases.{copy, phaseOf}
+use Rattle.model.specs.Phases.{copy, phaseOf, isOneOf}
 use Rattle.model.specs.Queues.{departed}
 use Rattle.model.specs.Store.{wordsAt}
 use Rattle.model.specs.Step.{finishCall, finishSend, received, ownAfter, otherAfter}
 use Rattle.model.specs.Atomic.{sending, Machine, rendezvous, receiverAfter, senderAfter, play, Can}
 use Rattle.laws.proofs.Store.{words-are-message}
 use Rattle.laws.proofs.Decided.{afterAction}
-use Rattle.formed.proofs.Flags.{isOneOf}
 use Rattle.formed.proofs.Facts.{sends-runs}
-use Rattle.formed.proofs.Formed.{copiesTo}
+use Rattle.formed.specs.Groups.{copiesTo}
 use Rattle.formed.proofs.Neighbours.{target-in-copy, below-nobody, sends-in-copy}
 use Rattle.formed.proofs.Receivers.{copies-to-target, receiver-ready, message-short}
 use Rattle.simulation.proofs.Abstraction.{abstraction, copies-nowhere}

@@ -9,14 +9,13 @@ use lib.IntN.{ℤ}
 use Rattle.model.specs.declared.Thread.{Thread}
 use Rattle.model.specs.declared.Table.{Table}
 use Rattle.model.specs.Codes.{nobody}
-use Rattle.model.specs.Phases.{Phase, check, look, phaseOf}
+use Rattle.model.specs.Phases.{Phase, check, look, phaseOf, isOneOf}
 use Rattle.model.specs.Threads.{at}
 use Rattle.model.specs.Step.{Action, stay, takeLock, abortSend, startCopy, toRelease, copyWord, finishCall, finishSend, freeTarget, retry, toIdle, abortReceive, takeSender, clearPoll, freeSender, decide, ownAfter, otherAfter, act, storeAfter}
 use Rattle.model.specs.Atomic.{Machine, CanAbort}
 use Rattle.model.specs.Linearized.{eventOf}
 use Rattle.laws.proofs.Decided.{TestedFor, AbortsSend, AbortsReceive, GoesOn, sending, receiving, ended, decided, otherOf, afterAction}
-use Rattle.formed.proofs.Flags.{isOneOf}
-use Rattle.formed.proofs.Formed.{copiesTo}
+use Rattle.formed.specs.Groups.{copiesTo}
 use Rattle.formed.proofs.Neighbours.{below-nobody}
 use Rattle.invariant.proofs.Steps.{act-changes}
 use Rattle.simulation.proofs.Abstraction.{abstraction, CopiedBy, copies-nowhere, copied-nothing}

@@ -9,9 +9,8 @@ use lib.Dec.{eqb, ltb}
 use borrow.Author.Tests.{lt-ltb, le-ltb, ltb-true, ltb-false, eq-eqb, ne-eqb}
 use Rattle.model.specs.Lists.{allBelow}
 use Rattle.model.specs.Codes.{nobody}
-use Rattle.model.specs.WellFormed.{chain}
+use Rattle.model.specs.WellFormed.{chain, within}
 use Rattle.model.proofs.Laws.{by, same?, all-below-read, all-below-made}
-use Rattle.formed.proofs.Locks.{within}
 use Rattle.wellformed.proofs.Below.{all-below-fails, all-below-more, all-below-end}
 use Rattle.wellformed.specs.Links.{chainEnds}
 

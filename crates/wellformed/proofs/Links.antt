@@ -9,7 +9,8 @@ use Rattle.model.specs.Lists.{allBelow}
 use Rattle.model.specs.Codes.{nobody}
 use Rattle.model.proofs.Laws.{by, implies-read, implies-made, _and_, all-of-read, all-of-made, all-below-read, all-below-made}
 use Rattle.model.proofs.Chains.{chains-long}
-use Rattle.formed.proofs.Locks.{Owners, within, Chains}
+use Rattle.model.specs.WellFormed.{within}
+use Rattle.formed.proofs.Locks.{Owners, Chains}
 use Rattle.wellformed.specs.Links.{pointsBack, chainEnds, linkFits}
 use Rattle.wellformed.proofs.Chains.{apart}
 

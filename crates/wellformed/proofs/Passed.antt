@@ -21,7 +21,8 @@ use Rattle.model.specs.WellFormed.{sendsTo}
 use Rattle.model.proofs.Laws.{by, same?}
 use Rattle.formed.proofs.Own.{Own}
 use Rattle.formed.proofs.Facts.{target-other}
-use Rattle.formed.proofs.Formed.{of, owner, copiesTo, Formed}
+use Rattle.formed.specs.Groups.{copiesTo}
+use Rattle.formed.proofs.Formed.{of, owner, Formed}
 use Rattle.clauses.specs.Alone.{targetOf}
 use Rattle.wellformed.specs.Links.{numberAt, linkFits}
 use Rattle.wellformed.specs.Waiting.{Free, Entered}

@@ -11,7 +11,8 @@ use Rattle.model.specs.WellFormed.{Shaped, WellFormed, wellFormed}
 use Rattle.model.proofs.Laws.{by}
 use Rattle.model.proofs.Numbers.{size-read, size-made}
 use Rattle.model.proofs.Tested.{well-formed-tested, well-formed-told}
-use Rattle.formed.proofs.Formed.{copiesTo, Formed, formed-grouped, formed-ungrouped}
+use Rattle.formed.specs.Groups.{copiesTo}
+use Rattle.formed.proofs.Formed.{Formed, formed-grouped, formed-ungrouped}
 use Rattle.clauses.specs.Alone.{ownFits}
 use Rattle.clauses.proofs.Alone.{own-tested}
 use Rattle.wellformed.specs.Links.{numberAt, linkFits}

@@ -5,8 +5,7 @@ use Prim.Native.Nat.{ℕ, suc}
 use lib.ListN.{getD}
 use lib.Dec.{eqb, ltb}
 use Rattle.model.specs.Lists.{implies, allOf, allBelow}
-use Rattle.model.specs.WellFormed.{chain}
-use Rattle.formed.proofs.Locks.{within}
+use Rattle.model.specs.WellFormed.{chain, within}
 
 -- the number that an array has for thread x
 abbrev pub numberAt : List ℕ → ℕ → ℕ

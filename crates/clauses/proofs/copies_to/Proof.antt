@@ -1,6 +1,6 @@
 use borrow.Author.Tests.{eq-eqb, ne-eqb}
-use Rattle.formed.proofs.Flags.{isOneOf}
-use Rattle.formed.proofs.Formed.{copiesTo}
+use Rattle.model.specs.Phases.{isOneOf}
+use Rattle.formed.specs.Groups.{copiesTo}
 use Rattle.clauses.proofs.copies_to.Statement.{statement}
 use Rattle.clauses.proofs.copies_to.Tie as tie
 

@@ -1,7 +1,8 @@
 use mathlib.Core.Bool.{or-false, or-assoc}
 use Rattle.model.specs.Lists.{implies}
 use Rattle.laws.proofs.Tests.{all-joined}
-use Rattle.formed.proofs.Flags.{isOneOf, flagsFit}
+use Rattle.model.specs.Phases.{isOneOf}
+use Rattle.formed.specs.Groups.{flagsFit}
 use Rattle.clauses.proofs.flags_fit.Statement.{statement}
 use Rattle.clauses.proofs.flags_fit.Tie as tie
 

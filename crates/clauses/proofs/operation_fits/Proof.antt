@@ -3,7 +3,7 @@ use borrow.Author.Tests.{not-true, not-false}
 use Rattle.model.specs.Lists.{implies}
 use Rattle.model.specs.Times.{tickCount, isLeft}
 use Rattle.laws.proofs.Tests.{all-joined}
-use Rattle.formed.proofs.Own.{operationFits}
+use Rattle.formed.specs.Groups.{operationFits}
 use Rattle.clauses.proofs.operation_fits.Statement.{statement}
 use Rattle.clauses.proofs.operation_fits.Tie as tie
 

@@ -5,7 +5,7 @@ use mir.Val.{SFits}
 use borrow.Author.Needs.{needs}
 use Rattle.model.specs.WellFormed.{nobodyOrBelow}
 use Rattle.laws.proofs.Tests.{all-joined}
-use Rattle.formed.proofs.Own.{outcomeFits}
+use Rattle.formed.specs.Groups.{outcomeFits}
 use Rattle.clauses.proofs.Codes.{same-bits}
 use Rattle.clauses.proofs.outcome_fits.Statement.{statement}
 use Rattle.clauses.proofs.outcome_fits.Tie as tie

@@ -1,8 +1,8 @@
 use mathlib.Core.Bool.{or-false}
 use Rattle.model.specs.Lists.{implies}
 use Rattle.laws.proofs.Tests.{all-joined}
-use Rattle.formed.proofs.Flags.{isOneOf}
-use Rattle.formed.proofs.Own.{phaseFits}
+use Rattle.model.specs.Phases.{isOneOf}
+use Rattle.formed.specs.Groups.{phaseFits}
 use Rattle.clauses.proofs.phase_fits.Statement.{statement}
 use Rattle.clauses.proofs.phase_fits.Tie as tie
 

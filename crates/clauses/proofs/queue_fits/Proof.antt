@@ -1,6 +1,6 @@
 use Rattle.model.specs.WellFormed.{nobodyOrBelow}
 use Rattle.laws.proofs.Tests.{all-joined}
-use Rattle.formed.proofs.Own.{queueFits}
+use Rattle.formed.specs.Groups.{queueFits}
 use Rattle.clauses.proofs.queue_fits.Statement.{statement}
 use Rattle.clauses.proofs.queue_fits.Tie as tie
 
