@@ -1,34 +1,41 @@
--- What no call changes: the number of threads and the store's length.
+-- What no call changes: what of a table is no thread, and the store's length.
 use mathlib.Core.Path.{_≡_, refl, ap, _∙_}
 use mathlib.Core.Logic.{⊎-elim}
 use mathlib.Core.List.{List}
 use Prim.Native.Nat.{ℕ}
 use lib.ListN.{length}
 use Rattle.model.specs.declared.Thread.{Thread}
+use Rattle.model.specs.declared.Table.{Table}
 use Rattle.model.specs.Threads.{at, edit, marked}
+use Rattle.model.specs.Phases.{lock}
 use Rattle.model.specs.Queues.{joined}
 use Rattle.model.specs.Step.{Action, decide, storeAfter}
-use Rattle.model.specs.Calls.{ticked, tickTable, Call, begin, step, cancel, tick, State, acceptedState}
+use Rattle.model.specs.Calls.{begun, ticked, tickTable, Call, begin, step, cancel, tick, State, acceptedState}
 use Rattle.model.specs.Promise.{next}
-use Rattle.laws.proofs.Tables.{edit-n, below-n, act-n}
+use Rattle.laws.proofs.Tables.{OnlyThreads, only-both, edit-only, below-only, act-only}
 use Rattle.laws.proofs.Store.{length-zeroed, length-word-copied, step-store}
 use Rattle.laws.proofs.Calls.{next-cases, begin-cases, cancel-cases}
 
--- ---- the number of threads
--- that of an accepted call
-accepted-size : (c : Call) (s : State) → acceptedState c s .table .n ≡ s .table .n
+-- ---- what of a table is no thread
+-- an accepted call leaves it
+accepted-only : (c : Call) (s : State) → OnlyThreads (s .table) (acceptedState c s .table)
 unfolding acceptedState tickTable
-accepted-size (begin x o) s = let t = s .table in begin-cases x o t (λ after. after .n ≡ t .n)
-    (λ far. edit-n x _ t)
-    (λ near sends below. edit-n x _ (edit (o .send .target) (joined x) t) ∙ edit-n (o .send .target) (joined x) t)
-    (λ near alone. edit-n x _ t)
-accepted-size (step x) s = act-n (decide (s .table) x) x (s .table)
-accepted-size (cancel x) s = cancel-cases x (s .table) (λ after. after .n ≡ s .table .n) (λ runs. edit-n x marked (s .table)) (λ over. refl)
-accepted-size tick s = below-n ticked (s .table) (s .table .n)
+accepted-only (begin x o) s = let t = s .table in begin-cases x o t (OnlyThreads t)
+    (λ far. edit-only x _ t)
+    (λ near sends below. let queued = edit (o .send .target) (joined x) t in
+    only-both t queued (edit x (begun o lock) queued) (edit-only (o .send .target) (joined x) t) (edit-only x (begun o lock) queued))
+    (λ near alone. edit-only x _ t)
+accepted-only (step x) s = act-only (decide (s .table) x) x (s .table)
+accepted-only (cancel x) s = cancel-cases x (s .table) (OnlyThreads (s .table)) (λ runs. edit-only x marked (s .table)) (λ over. refl)
+accepted-only tick s = below-only ticked (s .table) (s .table .n)
 
--- no call changes it
+-- every call leaves it
+pub next-only : (c : Call) (s : State) → OnlyThreads (s .table) (next c s .table)
+next-only c s = next-cases c s (λ after. OnlyThreads (s .table) (after .table)) (λ e. accepted-only c s) refl
+
+-- so no call changes the number of threads
 pub next-size : (c : Call) (s : State) → next c s .table .n ≡ s .table .n
-next-size c s = next-cases c s (λ after. after .table .n ≡ s .table .n) (λ e. accepted-size c s) refl
+next-size c s = ap (λ (t : Table). t .n) (next-only c s)
 
 -- ---- the store's length
 -- that of a step

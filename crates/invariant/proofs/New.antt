@@ -10,11 +10,11 @@ use borrow.Author.Tests.{ltb-true, not-false}
 use Rattle.model.specs.declared.Thread.{Thread}
 use Rattle.model.specs.Lists.{implies, allOf, occurs}
 use Rattle.model.specs.Codes.{nobody}
-use Rattle.model.specs.Phases.{phaseOf}
+use Rattle.model.specs.Phases.{isOneOf, phaseOf}
 use Rattle.model.specs.Threads.{newThread, newTable, zeroThread, at}
 use Rattle.model.specs.Queues.{senders}
 use Rattle.model.specs.Locks.{lockHeld}
-use Rattle.model.specs.WellFormed.{sizeInRange, inPhase, isCode, nobodyOrBelow, numbersInRange, ipcWithRunning, bareUnlessDone, notWithItself, sendAndMarkWithIpc, pollWithSend, receivingWithPart, ipcWithoutSend, idleWithoutFlags, releaseHasTarget, receiversSendClear, sendersSendSet, copiesToReady, sendsTo, ownerOf, chain, Shaped, Each, WellFormed}
+use Rattle.model.specs.WellFormed.{within, sizeInRange, inPhase, isCode, nobodyOrBelow, numbersInRange, ipcWithRunning, bareUnlessDone, notWithItself, sendAndMarkWithIpc, pollWithSend, receivingWithPart, ipcWithoutSend, idleWithoutFlags, releaseHasTarget, receiversSendClear, sendersSendSet, copiesToReady, sendsTo, ownerOf, chain, Shaped, Each, WellFormed}
 use Rattle.model.specs.Refusals.{unless, badSize, makeRefusal}
 use Rattle.model.specs.Promise.{madeTable}
 use Rattle.model.proofs.Laws.{by}
@@ -62,7 +62,7 @@ module _ (n : ℕ) (few : n ≤ 32) where
 
   -- every chain of owners ends with nobody
   new-chain : (r k : ℕ) → chain (ownerOf (newTable n)) (suc k) r ≡ nobody
-  unfolding chain ownerOf
+  unfolding chain ownerOf within
   new-chain r k = let o = chain (ownerOf (newTable n)) k r in
       by (ltb o (newTable n .n)) (λ e. rw e (new-owner o (ltb-true o (newTable n .n) e))) (λ e. rw e refl)
 
@@ -73,7 +73,7 @@ module _ (n : ℕ) (few : n ≤ 32) where
 
 -- a new table of 1 to 32 threads is well-formed
 pub new-well-formed : (n : ℕ) → 1 ≤ n → n ≤ 32 → WellFormed (newTable n)
-unfolding newThread implies allOf occurs sizeInRange inPhase isCode nobodyOrBelow numbersInRange ipcWithRunning bareUnlessDone notWithItself sendAndMarkWithIpc pollWithSend receivingWithPart ipcWithoutSend idleWithoutFlags releaseHasTarget receiversSendClear sendersSendSet copiesToReady
+unfolding newThread implies allOf occurs sizeInRange inPhase isOneOf isCode nobodyOrBelow numbersInRange ipcWithRunning bareUnlessDone notWithItself sendAndMarkWithIpc pollWithSend receivingWithPart ipcWithoutSend idleWithoutFlags releaseHasTarget receiversSendClear sendersSendSet copiesToReady
 new-well-formed n some few = let size = new-size n in record {
   size = rw size (size-made n some few);
   numbers = new-each n few (λ x h. numbersInRange (newTable n .n) h) (λ x. refl);

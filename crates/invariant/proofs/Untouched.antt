@@ -12,7 +12,7 @@ use Rattle.model.specs.declared.Thread.{Thread}
 use Rattle.model.specs.declared.Table.{Table}
 use Rattle.model.specs.Lists.{update}
 use Rattle.model.specs.Operations.{wordLimit}
-use Rattle.model.specs.Phases.{copy, phaseOf, phaseNumber}
+use Rattle.model.specs.Phases.{isOneOf, copy, phaseOf, phaseNumber}
 use Rattle.model.specs.Threads.{at, edit}
 use Rattle.model.specs.Queues.{joined}
 use Rattle.model.specs.Store.{wordsAt, wordCopied}
@@ -81,7 +81,7 @@ pub data Writes (s : State) (y : ℕ) : Call → Type 0 where
 
 -- the message of a thread in copy is short enough, whatever the lengths of the table's arrays
 copied-count : (t : Table) → WellFormed t → (x : ℕ) → x < t .n → phaseOf (at t x .phase) ≡ copy → at t x .op .send .count ≤ wordLimit
-unfolding numbersInRange sendInRange sendAndMarkWithIpc sendersSendSet inPhase
+unfolding numbersInRange sendInRange sendAndMarkWithIpc sendersSendSet inPhase isOneOf
 copied-count t w x xn c =
     let h = at t x in
     let (phase, (inRange, (receives, (part, more)))) = all-of-read _ (w .numbers x xn) in

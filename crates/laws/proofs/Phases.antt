@@ -9,7 +9,7 @@ use borrow.Author.Tests.{eqb-true}
 use Rattle.model.specs.declared.Thread.{Thread}
 use Rattle.model.specs.Lists.{allBelow}
 use Rattle.model.specs.WellFormed.{inPhase}
-use Rattle.model.specs.Phases.{Phase, idle, phaseOf, phaseNumber}
+use Rattle.model.specs.Phases.{isOneOf, Phase, idle, phaseOf, phaseNumber}
 use Rattle.model.specs.Locks.{lockHeldIn, lockHeld}
 use Rattle.model.proofs.Laws.{all-below-read}
 
@@ -25,5 +25,5 @@ lock-held-in h p e = ap (λ (q : Phase). lockHeldIn q (h .op .send .target) (h .
 
 -- a thread that passes the test for idle is in idle
 pub in-idle : (h : Thread) → inPhase (idle ∷ []) h ≡ true → phaseOf (h .phase) ≡ idle
-unfolding inPhase phaseOf
+unfolding inPhase isOneOf phaseOf
 in-idle h e = ap phaseOf (eqb-true (h .phase) (phaseNumber idle) (sym (or-false (eqb (h .phase) (phaseNumber idle))) ∙ e))

@@ -1,5 +1,5 @@
 -- What a call that is not refused has been tested for.
-use mathlib.Core.Path.{_≡_, refl}
+use mathlib.Core.Path.{ap, _≡_, refl}
 use mathlib.Core.Logic.{_≢_}
 use mathlib.Core.Bool.{true, false, not, _&&_, _||_}
 use mathlib.Core.List.{[], _∷_}
@@ -61,11 +61,8 @@ pub record AcceptedBegin (s : State) (x : ℕ) (o : Operation) : Type 0 where
 
 -- the second row is the same for every call
 second-row : (c : Call) (s : State) → NoneHolds (rowsOf c s) → not (wellFormed (s .table)) ≡ false
-unfolding rowsOf tableRows placeRows beginRows laterRows badSize notWellFormed
-second-row (begin x o) s r = r .1 .0
-second-row (step x) s r = r .1 .0
-second-row (cancel x) s r = r .1 .0
-second-row tick s r = r .1 .0
+unfolding rowsOf tableRows badSize notWellFormed
+second-row c s r = r .1 .0
 
 -- every call that is not refused finds a well-formed table
 pub accepted-table : (c : Call) (s : State) → refusal c s ≡ 0 → wellFormed (s .table) ≡ true
@@ -73,18 +70,18 @@ accepted-table c s e = not-false (wellFormed (s .table)) (second-row c s (accept
 
 -- a step that is not refused is of a thread of the table, and the store has its words
 pub accepted-step : (x : ℕ) (s : State) → refusal (step x) s ≡ 0 → AcceptedStep s x
-unfolding rowsOf tableRows placeRows beginRows laterRows noThread badLength
+unfolding rowsOf tableRows placeRows laterRows noThread badLength
 accepted-step x s e = let (size, (formed, (below, (store, end)))) = accepted-rows (step x) s e in
     record { below = leb-false (s .table .n) x below; store = eqb-true (length (s .store)) (8 * s .table .n) (not-false (eqb (length (s .store)) (8 * s .table .n)) store) }
 
 -- the outcome call is refused as a step is
 pub outcome-as-step : (s : State) (x : ℕ) → outcomeRefusal s x ≡ refusal (step x) s
-unfolding outcomeRefusal refusal rowsOf tableRows placeRows beginRows laterRows
+unfolding outcomeRefusal refusal rowsOf tableRows placeRows laterRows
 outcome-as-step s x = refl
 
 -- a cancel that is not refused is of a thread of the table, and its lock is free
 pub accepted-cancel : (x : ℕ) (s : State) → refusal (cancel x) s ≡ 0 → AcceptedCancel s x
-unfolding rowsOf tableRows placeRows beginRows laterRows noThread lockOwned
+unfolding rowsOf tableRows laterRows noThread lockOwned
 accepted-cancel x s e = let (size, (formed, (below, (free, end)))) = accepted-rows (cancel x) s e in
     record { below = leb-false (s .table .n) x below; free = not-false (lockFree (at (s .table) x)) free }
 
@@ -108,7 +105,7 @@ receive-in-range : (n : ℕ) (r : Receive) → isTimeCode (receiveTime r) ≡ tr
 unfolding receiveInRange
 receive-in-range n Absent time near = refl
 receive-in-range n (Open w) time near = time
-receive-in-range n (Closed w) time near = all-of-made _ (time and lt-ltb (w .partner) n (leb-false n (w .partner) near) and tt)
+receive-in-range n (Closed w) time near = all-of-made _ (time and ap not near and tt)
 
 -- what a begin that is not refused has been tested for
 pub accepted-begin : (x : ℕ) (o : Operation) (s : State) → refusal (begin x o) s ≡ 0 → AcceptedBegin s x o

@@ -10,7 +10,7 @@ use lib.Seq.{getD-take}
 use lib.Dec.{eqb}
 use borrow.Author.Tests.{eqb-true, ne-eqb}
 use Rattle.model.specs.Lists.{concat}
-use Rattle.model.specs.RecordBytes.{beginKind, recordLength, byte, kindByte, threadByte, lawful}
+use Rattle.model.specs.RecordBytes.{longestRecord, beginKind, recordLength, byte, kindByte, threadByte, lawful}
 use Rattle.model.specs.Encoding.{wordBytes}
 use Rattle.model.specs.Decoding.{front}
 use Rattle.model.proofs.Laws.{by, all-of-read}
@@ -22,8 +22,8 @@ pub record-head : (kind : ℕ) → 4 ≤ recordLength kind
 unfolding recordLength
 record-head kind = by (eqb kind beginKind) (λ e. rw e (omega arith)) (λ e. rw e (omega arith))
 
--- and at most 42
-pub record-longest : (kind : ℕ) → recordLength kind ≤ 42
+-- and at most as many as the longest
+pub record-longest : (kind : ℕ) → recordLength kind ≤ longestRecord
 unfolding recordLength
 record-longest kind = by (eqb kind beginKind) (λ e. rw e (omega arith)) (λ e. rw e (omega arith))
 

@@ -9,18 +9,27 @@ use lib.Seq.{getD-set-same, getD-set-other, set-getD, set-set, set-out}
 use Rattle.model.specs.declared.Thread.{Thread}
 use Rattle.model.specs.declared.Table.{Table}
 use Rattle.model.specs.Lists.{update}
-use Rattle.model.specs.Threads.{zeroThread, at, put, edit, editBelow}
+use Rattle.model.specs.Threads.{zeroThread, at, withThreads, put, edit, editBelow}
 use Rattle.model.specs.Step.{Action, other, ownAfter, otherAfter, act}
 use Rattle.model.proofs.Laws.{same?}
 use Rattle.laws.proofs.Lists.{update-same, update-other, update-own}
 
--- ---- one thread is put into a table
--- the number of threads in use stays
-pub put-n : (x : ℕ) (h : Thread) (t : Table) → put x h t .n ≡ t .n
-unfolding put
-put-n x h t = refl
+-- ---- what is no thread
+-- u is t but for its threads
+abbrev pub OnlyThreads : Table → Table → Type 0
+OnlyThreads t u = withThreads (t .threads) u ≡ t
 
--- and so does the length of the array
+-- of two such changes in a row
+pub only-both : (t u v : Table) → OnlyThreads t u → OnlyThreads u v → OnlyThreads t v
+only-both t u v first second = ap (λ (w : Table). withThreads (t .threads) w) second ∙ first
+
+-- ---- one thread is put into a table
+-- only threads change
+pub put-only : (x : ℕ) (h : Thread) (t : Table) → OnlyThreads t (put x h t)
+unfolding put
+put-only x h t = refl
+
+-- the array keeps its length
 pub put-length : (x : ℕ) (h : Thread) (t : Table) → length (put x h t .threads) ≡ length (t .threads)
 unfolding put
 put-length x h t = length-set (t .threads) x h
@@ -38,17 +47,17 @@ put-other x h t y d = getD-set-other (t .threads) x y h zeroThread d
 -- a thread that is put where it was changes nothing
 pub put-own : (x : ℕ) (t : Table) → put x (at t x) t ≡ t
 unfolding at put
-put-own x t = ap {B = Table} (λ (threads : List Thread). record { n = t .n; threads = threads }) (set-getD (t .threads) x zeroThread)
+put-own x t = ap (λ (threads : List Thread). withThreads threads t) (set-getD (t .threads) x zeroThread)
 
 -- of two threads that are put at one place the second stays
 pub put-over : (x : ℕ) (h k : Thread) (t : Table) → put x h (put x k t) ≡ put x h t
 unfolding put
-put-over x h k t = ap {B = Table} (λ (threads : List Thread). record { n = t .n; threads = threads }) (set-set (t .threads) x k h)
+put-over x h k t = ap (λ (threads : List Thread). withThreads threads t) (set-set (t .threads) x k h)
 
 -- a thread that is put past the array's end changes nothing
 pub put-nowhere : (x : ℕ) (h : Thread) (t : Table) → length (t .threads) ≤ x → put x h t ≡ t
 unfolding put
-put-nowhere x h t l = ap {B = Table} (λ (threads : List Thread). record { n = t .n; threads = threads }) (set-out (t .threads) x h l)
+put-nowhere x h t l = ap (λ (threads : List Thread). withThreads threads t) (set-out (t .threads) x h l)
 
 -- all threads at once
 pub put-at : (x : ℕ) (h : Thread) (t : Table) → x < length (t .threads) → at (put x h t) ≡ update (at t) x h
@@ -62,12 +71,12 @@ pub edit-at : (x : ℕ) (f : Thread → Thread) (t : Table) → x < length (t .t
 unfolding edit
 edit-at x f t l = put-at x (f (at t x)) t l
 
--- the number of threads in use stays
-pub edit-n : (x : ℕ) (f : Thread → Thread) (t : Table) → edit x f t .n ≡ t .n
+-- only threads change
+pub edit-only : (x : ℕ) (f : Thread → Thread) (t : Table) → OnlyThreads t (edit x f t)
 unfolding edit
-edit-n x f t = put-n x (f (at t x)) t
+edit-only x f t = put-only x (f (at t x)) t
 
--- and so does the length of the array
+-- the array keeps its length
 pub edit-length : (x : ℕ) (f : Thread → Thread) (t : Table) → length (edit x f t .threads) ≡ length (t .threads)
 unfolding edit
 edit-length x f t = put-length x (f (at t x)) t
@@ -87,13 +96,13 @@ edit-two-at x r f g t xl rl apart =
 
 -- ---- each thread below a number is edited
 module _ (f : Thread → Thread) (t : Table) where
-  -- the number of threads in use stays
-  pub below-n : (k : ℕ) → editBelow k f t .n ≡ t .n
+  -- only threads change
+  pub below-only : (k : ℕ) → OnlyThreads t (editBelow k f t)
   unfolding editBelow
-  below-n zero = refl
-  below-n (suc k) = edit-n k f (editBelow k f t) ∙ below-n k
+  below-only zero = refl
+  below-only (suc k) = only-both t (editBelow k f t) (edit k f (editBelow k f t)) (below-only k) (edit-only k f (editBelow k f t))
 
-  -- and so does the length of the array
+  -- the array keeps its length
   pub below-length : (k : ℕ) → length (editBelow k f t .threads) ≡ length (t .threads)
   unfolding editBelow
   below-length zero = refl
@@ -119,12 +128,12 @@ module _ (a : Action) (x : ℕ) (t : Table) where
   abbrev otherNow : Thread
   otherNow = otherAfter a x (at t x) (at t (other (at t x)))
 
-  -- the number of threads in use stays
-  pub act-n : act a x t .n ≡ t .n
+  -- only threads change
+  pub act-only : OnlyThreads t (act a x t)
   unfolding act put
-  act-n = refl
+  act-only = refl
 
-  -- and so does the length of the array
+  -- the array keeps its length
   pub act-length : length (act a x t .threads) ≡ length (t .threads)
   unfolding act
   act-length = put-length x _ (put (other (at t x)) otherNow t) ∙ put-length (other (at t x)) otherNow t

@@ -13,7 +13,7 @@ use Rattle.model.specs.Promise.{state}
 use Rattle.model.specs.Atomic.{begins, rendezvous}
 use Rattle.model.specs.Linearization.{Entry}
 use Rattle.model.specs.Linearized.{linearization}
-use Rattle.model.specs.Examples.{answersOf, sendTo, receiveOnly, openFor, steps}
+use Rattle.model.specs.Examples.{worked, sendTo, receiveOnly, openFor, steps}
 use Rattle.model.proofs.Computing.{computing}
 use Rattle.model.proofs.Traces.{traceOf, trace-of-calls, calls-of-trace}
 use Rattle.linearization.proofs.Applied.{entries, entries-computed}
@@ -39,7 +39,7 @@ abbrev first : State
 first = state (newTable 2) (replicate 16 7)
 
 -- what the calls answer
-pub calls-answered : answersOf first calls ≡
+pub calls-answered : worked first calls .answers ≡
     refused 3 ∷ replied accepted ∷ refused 5 ∷ replied moved ∷ refused 4 ∷ replied moved ∷ replied moved ∷ replied accepted ∷ replied accepted
     ∷ replied moved ∷ replied moved ∷ replied moved ∷ replied moved ∷ replied moved ∷ replied moved ∷ replied moved ∷ replied moved ∷ []
 unfolding computing

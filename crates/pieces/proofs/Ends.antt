@@ -2,10 +2,11 @@
 use mathlib.Core.Path.{_≡_}
 use mathlib.Core.Bool.{true, false}
 use mathlib.Core.List.{List}
-use Prim.Native.Nat.{ℕ, _≤_}
+use Prim.Native.Nat.{ℕ, _≤_, _<_}
 use native.Mathlib.Omega.{arith}
 use lib.ListN.{length, drop}
 use lib.Seq.{drop-drop}
+use Rattle.model.specs.RecordBytes.{longestRecord}
 use Rattle.model.specs.Schedule.{isEmpty}
 use Rattle.model.specs.Bondtrace.{Tally}
 use Rattle.laws.proofs.Schedule.{front-length}
@@ -31,7 +32,7 @@ pub bad-not-empty : (p : Tally) (input : List ℕ) → playedOn p input .bad ≡
 bad-not-empty p input bad = not-at-end false (drop (playedOn p input .taken) input) (omega (arith, bad-left p input bad))
 
 -- where there is none, what is left is shorter than the longest record
-pub left-short : (p : Tally) (input : List ℕ) → playedOn p input .bad ≡ false → length (drop (playedOn p input .taken) input) ≤ 41
-left-short = of-all-played (λ p input q. q .bad ≡ false → length (drop (q .taken) input) ≤ 41)
+pub left-short : (p : Tally) (input : List ℕ) → playedOn p input .bad ≡ false → length (drop (playedOn p input .taken) input) < longestRecord
+left-short = of-all-played (λ p input q. q .bad ≡ false → length (drop (q .taken) input) < longestRecord)
     (λ p input e fine. cut-short input fine)
     (λ p input q e h fine. unfold ahead in rw (← drop-drop) (h fine))

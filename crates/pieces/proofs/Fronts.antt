@@ -2,13 +2,13 @@
 use mathlib.Core.Path.{_≡_}
 use mathlib.Core.Bool.{Bool, true, false}
 use mathlib.Core.List.{List, _++_}
-use Prim.Native.Nat.{ℕ, _+_, _≤_}
+use Prim.Native.Nat.{ℕ, _+_, _≤_, _<_}
 use native.Mathlib.Omega.{arith}
 use lib.ListN.{length, drop, length-append, List·getD-append}
 use lib.Seq.{take-append-le, drop-append-le}
 use lib.Dec.{leb}
 use borrow.Author.Tests.{leb-true, leb-false, le-leb}
-use Rattle.model.specs.RecordBytes.{recordLength, kindByte, lawful}
+use Rattle.model.specs.RecordBytes.{longestRecord, recordLength, kindByte, lawful}
 use Rattle.model.specs.Decoding.{front}
 use Rattle.model.proofs.Laws.{by, and-left, and-right, and-made}
 use Rattle.laws.proofs.Lists.{second-fails}
@@ -51,7 +51,7 @@ module _ (input : List ℕ) (whole : wholeRecord input ≡ true) where
     front-stays = rw whole-kind (take-append-le (recordLength (kindByte input)) input more whole-length)
 
 -- what is no whole record is shorter than the longest one
-pub cut-short : (input : List ℕ) → wholeRecord input ≡ false → length input ≤ 41
+pub cut-short : (input : List ℕ) → wholeRecord input ≡ false → length input < longestRecord
 unfolding wholeRecord
 cut-short input e =
     by (leb 4 (length input))

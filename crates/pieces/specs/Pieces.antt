@@ -3,11 +3,11 @@ use mathlib.Core.Path.{_≡_}
 use mathlib.Core.Bool.{true, false, cond}
 use mathlib.Core.Option.{none, some}
 use mathlib.Core.List.{List, [], _∷_, _++_}
-use Prim.Native.Nat.{ℕ, suc, _+_, _≤_}
+use Prim.Native.Nat.{ℕ, suc, _+_, _≤_, _<_}
 use lib.ListN.{length, drop}
 use Rattle.model.specs.Lists.{concat}
 use Rattle.model.specs.Refusals.{unless, makeRefusal}
-use Rattle.model.specs.RecordBytes.{threadByte, lawful}
+use Rattle.model.specs.RecordBytes.{longestRecord, threadByte, lawful}
 use Rattle.model.specs.Decoding.{front}
 use Rattle.model.specs.Schedule.{Reading, isEmpty, readFrom, encodeAll}
 use Rattle.model.specs.Bondtrace.{Tally, recordsPlayed, started, finalText, badLine, bondtrace}
@@ -76,9 +76,9 @@ abbrev pub RestIsLeft : Type 0
 RestIsLeft = (p : Tally) (pieces : List (List ℕ)) → inPieces pieces (fresh p) .progress .bad ≡ false
     → inPieces pieces (fresh p) .rest ≡ drop (playedOn p (concat pieces) .taken) (concat pieces)
 
--- so few bytes are kept
+-- what is kept is shorter than a record can be
 abbrev pub RestShort : Type 0
-RestShort = (p : Tally) (pieces : List (List ℕ)) → inPieces pieces (fresh p) .progress .bad ≡ false → length (inPieces pieces (fresh p) .rest) ≤ 41
+RestShort = (p : Tally) (pieces : List (List ℕ)) → inPieces pieces (fresh p) .progress .bad ≡ false → length (inPieces pieces (fresh p) .rest) < longestRecord
 
 -- behind a table record of 1 to 32 threads, what is kept when no more comes tells the text: it is the same wherever what stands behind that record is cut
 abbrev pub PiecesText : Type 0

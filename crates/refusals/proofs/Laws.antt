@@ -11,7 +11,7 @@ use Rattle.model.specs.declared.Thread.{Thread}
 use Rattle.model.specs.declared.Table.{Table}
 use Rattle.model.specs.Times.{isTimeCode}
 use Rattle.model.specs.Operations.{hasReceive, receiveTime}
-use Rattle.model.specs.Phases.{idle, phaseNumber}
+use Rattle.model.specs.Phases.{isOneOf, idle, phaseNumber}
 use Rattle.model.specs.Threads.{at}
 use Rattle.model.specs.WellFormed.{inPhase}
 use Rattle.model.specs.Refusals.{Row, firstRefusal, notIdle, badTime}
@@ -33,7 +33,7 @@ row-as number b c e = ap (λ (d : Bool). firstRefusal (record { when = d; number
 
 -- the row on the phase by its test
 pub idle-row : (t : Table) (x : ℕ) (h : Thread) → at t x ≡ h → not (eqb (h .phase) (phaseNumber idle)) ≡ notIdle t x .when
-unfolding notIdle inPhase
+unfolding notIdle inPhase isOneOf
 idle-row t x h e = ap not (sym (or-false (eqb (h .phase) (phaseNumber idle)))) ∙ ap (λ (g : Thread). not (inPhase (idle ∷ []) g)) (sym e)
 
 -- a time code above 15 is none
