@@ -3,9 +3,7 @@ ghost use mathlib.Core.Path.{_≡_};
 ghost use Rattle.model.specs.Codes.{codes};
 ghost use Rattle.model.specs.Locks.{lockHeld};
 ghost use Rattle.model.specs.WellFormed.{isCode, sendInRange, receiveInRange};
-ghost use Rattle.formed.specs.Groups.{flagsFit};
-ghost use Rattle.formed.specs.Groups.{outcomeFits, operationFits, phaseFits, queueFits};
-ghost use Rattle.formed.specs.Groups.{copiesTo};
+ghost use Rattle.formed.specs.Groups.{flagsFit, outcomeFits, operationFits, phaseFits, queueFits, copiesTo};
 ghost use Rattle.clauses.specs.Alone.{ownFits, targetOf};
 use model::Flags;
 use model::Operation;
@@ -68,11 +66,8 @@ fn send_in_range(n: u8, send: SendPart) -> bool
 fn receive_in_range(n: u8, receive: Receive) -> bool
     ensures { λ r. ⌜ r ≡ receiveInRange n receive ⌝ }
 {
-    match receive {
-        Receive::Absent => true,
-        Receive::Open(w) => w.time <= LAST_TIME_CODE,
-        Receive::Closed(w) => (w.time <= LAST_TIME_CODE) & (w.partner < n),
-    }
+    let timed = !threads::has_receive(receive) | (threads::receive_time(receive) <= LAST_TIME_CODE);
+    timed & !threads::closed_beyond(n, receive)
 }
 
 // The numbers of an operation that runs, and left, are in range; thread x is neither its target nor its partner.

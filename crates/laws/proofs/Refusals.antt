@@ -93,19 +93,10 @@ send-in-range n o count time near = implies-made (o .send .present) _ (λ i. all
     lt-ltb (o .send .target) n (leb-false n (o .send .target) (second-fails (o .send .present) (leb n (o .send .target)) near i))
     and le-leb (o .send .count) wordLimit (count i) and time i and tt))
 
--- the time code of a receive part is lawful, also of an absent one
-wait-time : (r : Receive) → (hasReceive r && not (isTimeCode (receiveTime r))) ≡ false → isTimeCode (receiveTime r) ≡ true
-unfolding isTimeCode
-wait-time Absent e = refl
-wait-time (Open w) e = not-false (isTimeCode (w .time)) e
-wait-time (Closed w) e = not-false (isTimeCode (w .time)) e
-
 -- a receive part with a lawful time code and a partner in the table has its numbers in range
-receive-in-range : (n : ℕ) (r : Receive) → isTimeCode (receiveTime r) ≡ true → closedBeyond n r ≡ false → receiveInRange n r ≡ true
+receive-in-range : (n : ℕ) (r : Receive) → (hasReceive r && not (isTimeCode (receiveTime r))) ≡ false → closedBeyond n r ≡ false → receiveInRange n r ≡ true
 unfolding receiveInRange
-receive-in-range n Absent time near = refl
-receive-in-range n (Open w) time near = time
-receive-in-range n (Closed w) time near = all-of-made _ (time and ap not near and tt)
+receive-in-range n r time near = all-of-made _ (implies-made (hasReceive r) _ (λ i. not-false _ (second-fails (hasReceive r) _ time i)) and ap not near and tt)
 
 -- what a begin that is not refused has been tested for
 pub accepted-begin : (x : ℕ) (o : Operation) (s : State) → refusal (begin x o) s ≡ 0 → AcceptedBegin s x o
@@ -118,7 +109,6 @@ accepted-begin x o s e =
     let count : o .send .present ≡ true → o .send .count ≤ wordLimit = λ i. ltb-false wordLimit (o .send .count) (second-fails (o .send .present) (ltb wordLimit (o .send .count)) words i) in
     let sendTime : o .send .present ≡ true → isTimeCode (o .send .time) ≡ true
     = λ i. not-false (isTimeCode (o .send .time)) (second-fails (o .send .present) (not (isTimeCode (o .send .time))) (or-left badSend badWait time) i) in
-    let waitTime = wait-time (o .receive) (or-right badSend badWait time) in
     record {
       below = leb-false (s .table .n) x below;
       store = eqb-true (length (s .store)) (8 * s .table .n) (not-false (eqb (length (s .store)) (8 * s .table .n)) store);
@@ -128,5 +118,5 @@ accepted-begin x o s e =
       otherTarget = λ i. eqb-false (o .send .target) x (second-fails (o .send .present) (eqb (o .send .target) x) (or-left toItself (closedOn (o .receive) x) itself) i);
       otherPartner = or-right toItself (closedOn (o .receive) x) itself;
       sends = send-in-range (s .table .n) o count sendTime;
-      receives = receive-in-range (s .table .n) (o .receive) waitTime partner;
+      receives = receive-in-range (s .table .n) (o .receive) (or-right badSend badWait time) partner;
     }

@@ -14,7 +14,7 @@ use Rattle.model.specs.declared.Receive.the-variants.{Absent, Open, Clos
 use Rattle.model.specs.declared.Thread.{Thread}
 use Rattle.model.specs.declared.Table.{Table}
 use Rattle.model.specs.Lists.{implies, allOf, allBelow, bit, occurs}
-use Rattle.model.specs.Operations.{closedBeyond, wordLimit, hasReceive, closedOn}
+use Rattle.model.specs.Operations.{closedBeyond, wordLimit, hasReceive, receiveTime, closedOn}
 use Rattle.model.specs.Codes.{done, running, codes, sameCode, nobody}
 use Rattle.model.specs.Times.{isTimeCode, isLeft}
 use Rattle.model.specs.Phases.{isOneOf, Phase, idle, lock, check, copy, release, sleep, look, wake, unlock}
@@ -46,9 +46,7 @@ sendInRange n part = implies (part .present) (allOf (ltb (part .target) n ∷ le
 
 -- the numbers of a receive part: time code, partner
 unfoldable pub receiveInRange : ℕ → Receive → Bool
-receiveInRange n Absent = true
-receiveInRange n (Open w) = isTimeCode (w .time)
-receiveInRange n (Closed w) = allOf (isTimeCode (w .time) ∷ not (closedBeyond n (Closed w)) ∷ [])
+receiveInRange n r = allOf (implies (hasReceive r) (isTimeCode (receiveTime r)) ∷ not (closedBeyond n r) ∷ [])
 
 -- "every number in use is in range": of a running operation all numbers of its parts are in use, and `left`; of an ended one only the
 -- target that release still frees (`releaseHasTarget`); a thread that sends, or frees its target's lock, has a send part

@@ -5,10 +5,8 @@ ghost use Prim.Native.Nat.{ℕ};
 ghost use Rattle.model.specs.declared.Table.{Table};
 ghost use Rattle.model.specs.Threads.{at};
 ghost use Rattle.model.specs.Refusals.{firstRefusal, noThread, badLength, lockOwned, tableRows, placeRows, beginRows, makeRefusal};
-ghost use Rattle.model.specs.Operations.{closedBeyond};
 ghost use Rattle.refusals.specs.Rows.{firstOf, threadRows, operationRows};
 use model::Operation;
-use model::Receive;
 use model::Table;
 use model::Thread;
 use threads::IDLE;
@@ -91,17 +89,6 @@ fn thread_refusal(h: Thread) -> u8
     first(lock, phase)
 }
 
-// Closed partner is N or more.
-fn closed_beyond(n: u8, receive: Receive) -> bool
-    ensures { λ r. ⌜ r ≡ closedBeyond n receive ⌝ }
-{
-    match receive {
-        Receive::Absent => false,
-        Receive::Open(_) => false,
-        Receive::Closed(w) => n <= w.partner,
-    }
-}
-
 // The rows on the operation that thread x begins.
 fn operation_refusal(n: u8, x: u8, op: Operation) -> u8
     ensures { λ r. ⌜ ((t : Table) → t .n ≡ n → r ≡ firstRefusal (operationRows t x op)) ⌝ }
@@ -115,7 +102,7 @@ fn operation_refusal(n: u8, x: u8, op: Operation) -> u8
         (send.present & (send.target == x)) | threads::closed_on(receive, x),
         7,
     );
-    let partner = row(closed_beyond(n, receive), 8);
+    let partner = row(threads::closed_beyond(n, receive), 8);
     let words = row(send.present & (WORD_LIMIT < send.count), 9);
     let time = row(
         (send.present & (LAST_TIME_CODE < send.time)) | (receives & (LAST_TIME_CODE < waits)),

@@ -3,7 +3,7 @@ ghost use mathlib.Core.Path.{_≡_};
 ghost use mathlib.Core.Bool.{cond};
 ghost use Rattle.model.specs.Codes.{isFailure, codeOnly};
 ghost use Rattle.model.specs.Times.{tickCount, fall};
-ghost use Rattle.model.specs.Operations.{hasReceive, receiveTime, accepts, closedOn};
+ghost use Rattle.model.specs.Operations.{hasReceive, receiveTime, openPart, closedOn, accepts, closedBeyond};
 ghost use Rattle.model.specs.Threads.{noFlags, ended, marked, withoutReceive};
 ghost use Rattle.model.specs.Queues.{ready};
 ghost use Rattle.model.specs.Calls.{ticked};
@@ -156,6 +156,17 @@ pub fn accepts_from(receive: Receive, s: u8) -> bool
     }
 }
 
+// A receive part that is open.
+pub fn is_open(receive: Receive) -> bool
+    ensures { λ r. ⌜ r ≡ openPart receive ⌝ }
+{
+    match receive {
+        Receive::Absent => false,
+        Receive::Open(_) => true,
+        Receive::Closed(_) => false,
+    }
+}
+
 // A receive part that is closed on s.
 pub fn closed_on(receive: Receive, s: u8) -> bool
     ensures { λ r. ⌜ r ≡ closedOn receive s ⌝ }
@@ -164,6 +175,17 @@ pub fn closed_on(receive: Receive, s: u8) -> bool
         Receive::Absent => false,
         Receive::Open(_) => false,
         Receive::Closed(w) => w.partner == s,
+    }
+}
+
+// A receive part that is closed on a thread that a table of n has not.
+pub fn closed_beyond(n: u8, receive: Receive) -> bool
+    ensures { λ r. ⌜ r ≡ closedBeyond n receive ⌝ }
+{
+    match receive {
+        Receive::Absent => false,
+        Receive::Open(_) => false,
+        Receive::Closed(w) => n <= w.partner,
     }
 }
 

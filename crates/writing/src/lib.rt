@@ -4,7 +4,6 @@ ghost use mathlib.Core.List.{_++_, map};
 ghost use Prim.Native.Nat.{_+_, _≤_};
 ghost use lib.ListN.{length, take, drop};
 ghost use Rattle.model.specs.Lists.{bit, concat};
-ghost use Rattle.model.specs.Operations.{openPart};
 ghost use Rattle.model.specs.Encoding.{partnerOf, wordBytes, partsOf, allZero, EncodePromise};
 ghost use Rattle.writing.specs.Spelled.{spelled, isBare};
 use model::Answer;
@@ -37,17 +36,6 @@ fn bit_of(b: bool) -> u8
     0
 }
 
-// A receive part that is open.
-fn is_open(receive: Receive) -> bool
-    ensures { λ r. ⌜ r ≡ openPart receive ⌝ }
-{
-    match receive {
-        Receive::Absent => false,
-        Receive::Open(_) => true,
-        Receive::Closed(_) => false,
-    }
-}
-
 // The partner that a receive part holds; 0 without one.
 fn partner_of(receive: Receive) -> u8
     ensures { λ r. ⌜ r ≡ partnerOf receive ⌝ }
@@ -65,7 +53,9 @@ fn parts_of(op: Operation) -> u8
 {
     let send = op.send;
     let receive = op.receive;
-    bit_of(send.present) + 2 * bit_of(threads::has_receive(receive)) + 4 * bit_of(is_open(receive))
+    bit_of(send.present)
+        + 2 * bit_of(threads::has_receive(receive))
+        + 4 * bit_of(threads::is_open(receive))
 }
 
 // A word from a place on, low byte first.

@@ -1,30 +1,24 @@
-use borrow.Author.Needs.{needs}
+use mathlib.Core.Bool.{and-true}
+use Rattle.model.specs.Lists.{implies, allOf}
 use Rattle.model.specs.Times.{isTimeCode}
 use Rattle.model.specs.WellFormed.{receiveInRange}
-use Rattle.laws.proofs.Tests.{all-joined}
+use borrow.Author.Needs.{needs}
 use Rattle.clauses.proofs.receive_in_range.Statement.{statement}
 use Rattle.clauses.proofs.receive_in_range.Tie as tie
 
-enum-told : tie.Need-enum-told
-enum-told c = search needs
+has-receive-requires : tie.Need-has-receive-requires
+has-receive-requires c κs = search needs
 
-enum-known-receive : tie.Need-enum-known-receive
-enum-known-receive c = search needs
+receive-time-requires : tie.Need-receive-time-requires
+receive-time-requires c κs = search needs
 
-enum-known-receive-2 : tie.Need-enum-known-receive-2
-enum-known-receive-2 c = search needs
+closed-beyond-requires : tie.Need-closed-beyond-requires
+closed-beyond-requires c κs = search needs
 
 returns : tie.Need-returns
-unfolding receiveInRange
-returns c = rw (c .enum-told .given .1)
-
-returns-2 : tie.Need-returns-2
-unfolding receiveInRange isTimeCode
-returns-2 c = rw (c .before .before .receive .given .1)
-
-returns-3 : tie.Need-returns-3
-unfolding receiveInRange isTimeCode
-returns-3 c = rw (c .before .before .before .receive2 .given .1) (all-joined _ _)
+unfolding receiveInRange isTimeCode implies allOf
+returns c = rw (c .before .before .has-receive .ensures, c .before .receive-time .ensures, c .closed-beyond .ensures) (simp and-true)
 
 pub receive-in-range-spec : {M : Type 1} → statement M
-receive-in-range-spec = tie.close (tie.spec enum-told enum-known-receive enum-known-receive-2 returns returns-2 returns-3)
+receive-in-range-spec =
+    tie.close (tie.spec has-receive-requires receive-time-requires closed-beyond-requires returns)

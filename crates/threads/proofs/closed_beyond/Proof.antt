@@ -1,6 +1,6 @@
 use borrow.Author.Needs.{needs}
-use Rattle.refusals.proofs.closed_beyond.Statement.{statement}
-use Rattle.refusals.proofs.closed_beyond.Tie as tie
+use Rattle.threads.proofs.closed_beyond.Statement.{statement}
+use Rattle.threads.proofs.closed_beyond.Tie as tie
 
 enum-told : tie.Need-enum-told
 enum-told c = search needs
