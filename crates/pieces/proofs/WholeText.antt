@@ -1,15 +1,13 @@
 -- Playing record by record prints what reading all of them first and then playing them prints.
 use mathlib.Core.Path.{_≡_, refl, sym, ap, _∙_}
-use mathlib.Core.Logic.{_⊎_, inl, inr}
-use mathlib.Core.Bool.{true, false, cond, and-false}
+use mathlib.Core.Bool.{true, false, cond}
 use mathlib.Core.Option.{Option, none, some}
 use mathlib.Core.List.{List, _++_}
 use Prim.Native.Nat.{ℕ, _+_, _≤_, _<_}
 use native.Mathlib.Omega.{arith}
 use lib.ListN.{length, take, drop, List·getD-append}
-use lib.Seq.{take-at, drop-at}
-use lib.Dec.{leb}
-use borrow.Author.Tests.{eqb-true, le-leb, lt-leb}
+use lib.Seq.{take-at, take-append-le, drop-at}
+use borrow.Author.Tests.{eqb-true, le-leb}
 use Rattle.model.specs.declared.Record.{Record}
 use Rattle.model.specs.WellFormed.{sizeInRange}
 use Rattle.model.specs.Refusals.{firstRefusal, unless, badSize, makeRefusal}
@@ -19,12 +17,15 @@ use Rattle.model.specs.Schedule.{Fault, Reading, isEmpty, readFrom, decodeAll}
 use Rattle.model.specs.Bondtrace.{Tally, recordsPlayed, started, finalText, badLine, callsText, readingText, bondtrace}
 use Rattle.model.proofs.Laws.{by, and-made, all-of-read, alike-read}
 use Rattle.laws.proofs.Lists.{cond-true, cond-false}
+use Rattle.laws.proofs.Joined.{take-and-rest}
+use Rattle.laws.proofs.Tests.{same-test}
 use Rattle.laws.proofs.Schedule.{front-thread, front-and-behind, lawful-length}
 use Rattle.roundtrip.proofs.Records.{front-lawful}
 use Rattle.roundtrip.proofs.Reading.{reads-fault, later, reads-one, enough}
 use Rattle.pieces.specs.Playing.{Progress, playedOn}
 use Rattle.pieces.specs.Pieces.{endText, textOf, WholeText}
 use Rattle.pieces.proofs.Playing.{behind}
+use Rattle.pieces.proofs.Fronts.{whole-if-lawful, front-stays}
 use Rattle.pieces.proofs.AsRead.{as-read}
 
 -- ---- from a byte on, behind the table record
@@ -85,17 +86,24 @@ whole-text input =
     (λ e. ap printed (reads-fault (length input) true 0 input refl e) ∙ sym (cond-false _ _ _ e))
 
 -- ---- what the table record settles
--- it is no lawful one where the first four bytes are none
-table-unlawful : (input : List ℕ) → lawful true (take 4 input) ≡ false → lawful true (front input) ≡ false
-table-unlawful input e = by (lawful true (front input)) (λ rules. sym (ap (lawful true) (four rules)) ∙ e) (λ f. f)
-  where
-    four : lawful true (front input) ≡ true → take 4 input ≡ front input
-    four rules = ap (take 4) (sym (front-and-behind input)) ∙ take-at (front input) (behind input) 4 (table-length input rules)
+module _ (bytes more : List ℕ) (four : 4 ≤ length bytes) where
+  -- bytes that go on have the same first four
+  first-four : take 4 (bytes ++ more) ≡ take 4 bytes
+  first-four = take-append-le 4 bytes more four
 
--- then only that is printed
-pub text-unlawful : (input : List ℕ) → lawful true (take 4 input) ≡ false → bondtrace input ≡ badLine 12 0
-unfolding textOf
-text-unlawful input e = whole-text input ∙ cond-false _ _ _ (table-unlawful input e)
+  -- a lawful table record is these four
+  front-four : (input : List ℕ) → lawful true (front input) ≡ true → take 4 input ≡ front input
+  front-four input rules = ap (take 4) (sym (front-and-behind input)) ∙ take-at (front input) (behind input) 4 (table-length input rules)
+
+  -- where they are lawful, they are the record at the front
+  four-front : lawful true (take 4 bytes) ≡ true → front bytes ≡ take 4 bytes
+  four-front rules = ap front (sym (take-and-rest 4 bytes)) ∙ front-lawful true (take 4 bytes) rules (drop (length (take 4 bytes)) bytes)
+
+  -- so what comes behind four bytes does not make them lawful, nor unlawful
+  pub table-stays : lawful true (front (bytes ++ more)) ≡ lawful true (front bytes)
+  table-stays = same-test (lawful true (front (bytes ++ more))) (lawful true (front bytes))
+      (λ later. let rules : lawful true (take 4 bytes) ≡ true = ap (lawful true) (sym first-four ∙ front-four (bytes ++ more) later) ∙ later in ap (lawful true) (four-front rules) ∙ rules)
+      (λ now. ap (lawful true) (front-stays bytes (whole-if-lawful true bytes now) more) ∙ now)
 
 module _ (head input : List ℕ) (rules : lawful true head ≡ true) where
   -- what is played behind it
@@ -115,14 +123,3 @@ module _ (head input : List ℕ) (rules : lawful true head ≡ true) where
 pub size-accepted : (n : ℕ) → 1 ≤ n → n ≤ 32 → makeRefusal n ≡ 0
 unfolding makeRefusal firstRefusal badSize sizeInRange
 size-accepted n least most = rw (and-made _ _ (le-leb 1 n least) (le-leb n 32 most)) refl
-
--- no others are
-size-refused : (n : ℕ) → (n ≡ 0) ⊎ (32 < n) → makeRefusal n ≡ 1
-unfolding makeRefusal firstRefusal badSize sizeInRange
-size-refused n (inl empty) = rw empty refl
-size-refused n (inr many) = rw (lt-leb n 32 many, and-false (leb 1 n)) refl
-
--- then only that is printed
-pub text-refused : (head input : List ℕ) → lawful true head ≡ true → (threadByte head ≡ 0) ⊎ (32 < threadByte head) → bondtrace (head ++ input) ≡ badLine 1 0
-unfolding unless
-text-refused head input rules size = rw (size-refused (threadByte head) size) at (table-text head input rules)

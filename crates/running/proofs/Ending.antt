@@ -15,8 +15,8 @@ use Rattle.printing.proofs.Writing.{printed-whole}
 use Rattle.opening.specs.declared.Playback.{Playback}
 use Rattle.trace.specs.Playback.{tallyOf}
 use Rattle.opening.specs.Opened.{Steady}
-use Rattle.trace.specs.Known.{Reached}
-use Rattle.trace.proofs.Known.{reached-text}
+use Rattle.running.specs.Known.{Reached}
+use Rattle.running.proofs.Known.{reached-text}
 use Rattle.running.proofs.Filling.{steady-few}
 
 -- no bytes are left

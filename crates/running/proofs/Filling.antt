@@ -17,10 +17,19 @@ use Rattle.refill.specs.Refilled.{Refilled}
 use Rattle.opening.specs.declared.Playback.{Playback}
 use Rattle.opening.specs.Opened.{openRefusal, openSize, opened, Steady}
 use Rattle.trace.specs.Playback.{Playable, PlayPromise, Carries}
-use Rattle.trace.specs.Known.{Reached}
+use Rattle.running.specs.Known.{Reached}
 use Rattle.opening.proofs.Opening.{not-opened, opens, opened-size, opened-words}
-use Rattle.trace.proofs.Known.{reached-first, reached-more}
-use Rattle.running.specs.Input.{Starts, Along, Over}
+use Rattle.running.proofs.Known.{reached-first, reached-more}
+use Rattle.running.specs.Input.{Starts, Over}
+
+-- these bytes are still to be played: what was kept, and a new piece of the input behind it
+pub record Along (t : Playback) (store bytes : List ℕ) : Type 0 where
+  pub head : List ℕ
+  pub input : List ℕ
+  pub rest : List ℕ
+  pub piece : List ℕ
+  pub reached : Reached head input false t store rest
+  pub there : bytes ≡ rest ++ piece
 
 -- a playback that can go on has at most 32 threads
 pub steady-few : (t : Playback) → Steady t → t .table .n ≤ 32

@@ -1,2 +1,4 @@
+pub mod Known
 pub mod Filling
 pub mod Ending
+pub mod Refusing

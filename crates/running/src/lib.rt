@@ -1,15 +1,17 @@
 // What program bondtrace does, with any descriptor as its input: a schedule of any length is played in constant memory, and its end is printed.
 ghost use mathlib.Core.Path.{_≡_};
+ghost use mathlib.Core.Logic.{_≢_};
 ghost use mathlib.Core.Bool.{Bool};
 ghost use mathlib.Core.List.{List, _++_};
 ghost use Prim.Native.Nat.{ℕ, _≤_};
 ghost use lib.ListN.{length, take};
 ghost use Rattle.io.specs.Counts.{Counts};
 ghost use Rattle.model.specs.Bondtrace.{bondtrace};
-ghost use Rattle.opening.specs.Opened.{Steady};
-ghost use Rattle.trace.specs.Known.{Reached};
-ghost use Rattle.running.specs.Input.{Starts, Over};
+ghost use Rattle.opening.specs.Opened.{openSize, openRefusal, opened, Steady};
+ghost use Rattle.running.specs.Known.{Reached};
+ghost use Rattle.running.specs.Input.{Starts, Over, Settled};
 use libc::STDOUT_FILENO;
+use opening::Opened;
 use opening::Playback;
 
 // How often the buffer is filled at most: with 65,536 bytes each time, no counter comes near its end.
@@ -39,11 +41,38 @@ fn print_end(playback: Playback, store: &[u32], left: usize)
     io::write_all(STDOUT_FILENO, &out[..n]);
 }
 
-// Prints that the table record is refused.
-fn print_refused(number: u8) {
+// The text where the table record at the front of the bytes is refused by this number.
+fn refused_text(number: u8, bytes: &[u8], out: &mut [u8]) -> usize
+    requires { ⌜ number ≡ openRefusal (now bytes) ⌝ }
+    requires { ⌜ number ≢ 0 ⌝ }
+    requires { ⌜ length (now out) ≡ 4096 ⌝ }
+    ensures counts { λ r. ⌜ Counts r (now (out .exit)) ⌝ }
+    ensures text { λ r. ⌜ ((more : List ℕ) → Settled (now (bytes .entry)) more → take r (now (out .exit)) ≡ bondtrace (now (bytes .entry) ++ more)) ⌝ }
+{
+    printing::bad_line(number, 0, out)
+}
+
+// Prints that text.
+fn print_refused(number: u8, bytes: &[u8])
+    requires { ⌜ number ≡ openRefusal (now bytes) ⌝ }
+    requires { ⌜ number ≢ 0 ⌝ }
+{
     let mut out = io::buffer();
-    let n = printing::bad_line(number, 0, &mut out);
+    let n = refused_text(number, bytes, &mut out);
     io::write_all(STDOUT_FILENO, &out[..n]);
+}
+
+// Reads the table record at the front of the bytes; where it is refused, prints that.
+fn open_input(bytes: &[u8]) -> Opened
+    ensures number { λ r. ⌜ r .number ≡ openRefusal (now (bytes .entry)) ⌝ }
+    ensures playback { λ r. ⌜ r .playback ≡ opened (openSize (now (bytes .entry))) ⌝ }
+    ensures steady { λ r. ⌜ (r .number ≡ 0 → (4 ≤ length (now (bytes .entry))) × Steady (r .playback)) ⌝ }
+{
+    let opening = opening::open(bytes);
+    if opening.number != 0 {
+        print_refused(opening.number, bytes);
+    }
+    opening
 }
 
 // Plays what stands in the buffer behind the table record, and the rest of the input.
@@ -84,9 +113,8 @@ pub fn run(input: i32) {
     let mut space = io::large_buffer();
     let buffer: &mut [u8] = &mut space;
     let filled = io::read_full(input, buffer);
-    let opened = opening::open(&buffer[..filled]);
+    let opened = open_input(&buffer[..filled]);
     if opened.number != 0 {
-        print_refused(opened.number);
         return;
     }
     let playback = opened.playback;

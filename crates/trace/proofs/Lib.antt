@@ -1,4 +1,3 @@
 pub mod Records
 pub mod Turns
 pub mod Ways
-pub mod Known

@@ -14,17 +14,14 @@ slice-aggregate-buffer c = search needs
 read-full-requires : tie.Need-read-full-requires
 read-full-requires c κs = search needs
 
-slice-reshare-prefix-open : tie.Need-slice-reshare-prefix-open
-slice-reshare-prefix-open c = search needs
+slice-reshare-prefix-open-input : tie.Need-slice-reshare-prefix-open-input
+slice-reshare-prefix-open-input c = search needs
 
-slice-aggregate-open : tie.Need-slice-aggregate-open
-slice-aggregate-open c = search needs
+slice-aggregate-open-input : tie.Need-slice-aggregate-open-input
+slice-aggregate-open-input c = search needs
 
-open-requires : tie.Need-open-requires
-open-requires c κs = search needs
-
-print-refused-requires : tie.Need-print-refused-requires
-print-refused-requires c κs = search needs
+open-input-requires : tie.Need-open-input-requires
+open-input-requires c κs = search needs
 
 returns : tie.Need-returns
 returns c = search needs
@@ -32,7 +29,7 @@ returns c = search needs
 play-on-requires : tie.Need-play-on-requires
 play-on-requires c κs =
     let accepted = c .before .if1 .left in
-    let opening = c .before .before .before .«open» .ensures in
+    let opening = c .before .before .before .open-input .ensures in
     let read = c .before .before .before .before .before .before .before .read-full .ensures in
     (opening .1 .1 accepted .1, (opening-starts _ _ (sym (opening .0) ∙ accepted) (opening .1 .0), (search needs, (omega (arith, opening .1 .1 accepted .0, read .1), search needs))))
 
@@ -46,10 +43,9 @@ run-spec =
     large-buffer-requires
     slice-aggregate-buffer
     read-full-requires
-    slice-reshare-prefix-open
-    slice-aggregate-open
-    open-requires
-    print-refused-requires
+    slice-reshare-prefix-open-input
+    slice-aggregate-open-input
+    open-input-requires
     returns
     play-on-requires
     returns-2)

@@ -14,9 +14,9 @@ use Rattle.pieces.specs.Playing.{Progress, ahead, playedOn}
 use Rattle.pieces.specs.Pieces.{fresh, nextPiece, KeepsPace, endText}
 use Rattle.pieces.proofs.Pieces.{pace-fresh, pace-next, pace-text}
 use Rattle.opening.specs.declared.Playback.{Playback}
 use Rattle.trace.specs.Playback.{tallyOf, PlayPromise}
 use Rattle.opening.specs.Opened.{opened}
-use Rattle.trace.specs.Known.{known, Reached}
+use Rattle.running.specs.Known.{known, Reached}
 
 -- behind the table record nothing has come yet
 pub reached-first : (head : List ℕ) → lawful true head ≡ true → makeRefusal (threadByte head) ≡ 0
