@@ -7,6 +7,7 @@ pub mod Tested
 pub mod Replay
 pub mod Computing
 pub mod Examples
+pub mod Answered
 pub mod Replays
 pub mod Clauses
 pub mod Making
