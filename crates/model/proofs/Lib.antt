@@ -9,6 +9,7 @@ pub mod Computing
 pub mod Examples
 pub mod Answered
 pub mod Replays
+pub mod Forbidden
 pub mod Clauses
 pub mod Making
 pub mod Printed
