@@ -2,25 +2,27 @@
 use mathlib.Core.Path.{_≡_, refl, _∙_}
 use mathlib.Core.Logic.{_≢_}
 use mathlib.Core.Bool.{Bool, true}
-use mathlib.Core.List.{List}
-use Prim.Native.Nat.{ℕ, suc, _+_, _-_}
+use mathlib.Core.List.{List, map}
+use Prim.Native.Nat.{ℕ, suc, _+_, _-_, _*_}
 use lib.ListN.{length, getD, drop, replicate}
 use lib.Seq.{getD-set-other, getD-append-add, getD-drop}
 use lib.IntN.{ℤ}
 use Rattle.model.specs.declared.Operation.{Operation}
 use Rattle.model.specs.declared.Thread.{Thread}
 use Rattle.model.specs.declared.Table.{Table}
-use Rattle.model.specs.Codes.{noReceiver, codeOnly}
+use Rattle.model.specs.Codes.{noReceiver, nobody, codeOnly}
+use Rattle.model.specs.Times.{never, tickCount, fall}
 use Rattle.model.specs.Operations.{targetBeyond}
-use Rattle.model.specs.Lists.{without}
-use Rattle.model.specs.Phases.{Phase}
+use Rattle.model.specs.Lists.{without, upTo}
+use Rattle.model.specs.Phases.{Phase, phases, phaseOf, phaseNumber}
 use Rattle.model.specs.Threads.{noOperation, newThread, newTable, edit, ended, withoutReceive}
 use Rattle.model.specs.Queues.{senders, joined, departed}
-use Rattle.model.specs.Step.{abortSend, finishCall, finishSend, abortReceive, ownAfter, received}
+use Rattle.model.specs.Step.{abortSend, startCopy, copyWord, finishCall, finishSend, freeTarget, abortReceive, takeSender, ownAfter, received}
 use Rattle.model.specs.Calls.{begun, beginTable}
 use Rattle.model.specs.Refusals.{unless, makeRefusal}
 use Rattle.model.specs.Promise.{madeTable}
 use Rattle.model.specs.Decoding.{decodeRefusal, decode}
+use Rattle.model.specs.Bondtrace.{started}
 
 -- what an ending leaves as it was: the operation, `left`, and the two numbers that belong to other phases
 pub record Rest : Type 0 where
@@ -29,6 +31,7 @@ pub record Rest : Type 0 where
   pub copied : ℕ
   pub waking : ℕ
 
+-- these of a thread
 abbrev pub rest : Thread → Rest
 rest h = record { operation = h .op; left = h .left; copied = h .copied; waking = h .waking }
 
@@ -47,6 +50,7 @@ pub target-beyond : (x : ℕ) (o : Operation) (t : Table) → targetBeyond (t .n
 unfolding beginTable
 target-beyond x o t e = rw e refl
 
+-- and that ending leaves the rest of it as it was
 pub after-beyond : (h : Thread) → rest (ended (codeOnly noReceiver) h) ≡ rest h
 after-beyond h = refl
 
@@ -87,6 +91,7 @@ pub at-join : (s i : ℕ) (h : Thread) → i ≢ h .queue .len → getD (joined 
 unfolding joined
 at-join s i h d = getD-set-other (h .queue .items) (h .queue .len) i s 0 d
 
+-- the same of leaving
 pub at-leave : (s i : ℕ) (h : Thread) → getD (departed s h .queue .items) (length (without s (senders h)) + i) 0 ≡ getD (h .queue .items) (h .queue .len - 1 + i) 0
 unfolding departed
 at-leave s i h = getD-append-add (without s (senders h)) (drop (h .queue .len - 1) (h .queue .items)) i 0 ∙ getD-drop (h .queue .len - 1) (h .queue .items) i 0
@@ -96,4 +101,40 @@ pub no-record : (first : Bool) (bytes : List ℕ) (g : ℕ) → decodeRefusal fi
 unfolding decode unless
 no-record first bytes g e = rw e refl
 
--- 12. threads from N on: what they were when the table was made, since no call changes them; that is `next-beyond` of the crate `invariant`
+-- 12. threads from N on: what they were when the table was made. No call changes them: the theorem `next-beyond` of the crate `invariant`
+
+-- 13. the numbers of the phases: 0 to 8, in the order in which document 01 lists the phases of a step
+pub phase-numbers : map phaseNumber phases ≡ upTo 9 (λ i. i)
+unfolding upTo
+phase-numbers = refl
+
+-- and the phases of these numbers
+pub number-phases : map phaseOf (upTo 9 (λ i. i)) ≡ phases
+unfolding upTo phaseOf
+number-phases = refl
+
+-- 14. the owner of a lock that is free: 255, as the source that is none
+pub no-owner : (nobody ≡ 255) × (newThread .owner ≡ nobody)
+unfolding newThread
+no-owner = (refl, refl)
+
+-- 15. `left` of a thread whose time never runs out: 65535, and no tick lowers it
+pub no-end : (never ≡ 65535) × (tickCount 15 ≡ never) × (fall never ≡ never)
+unfolding tickCount fall
+no-end = (refl, refl, refl)
+
+-- 16. two fields that document 01 does not name: the words copied, which copying counts from 0, and the sender being woken, which look sets
+pub two-fields : (s : ℕ) (h : Thread) → (ownAfter startCopy h .copied ≡ 0) × (ownAfter copyWord h .copied ≡ h .copied + 1) × (ownAfter (takeSender s) h .waking ≡ s)
+unfolding ownAfter
+two-fields s h = (refl, refl, refl)
+
+-- 17. the store that `bondtrace` starts with: zeros
+pub first-store : (n : ℕ) → started n .now .store ≡ replicate (8 * n) 0
+unfolding started
+first-store n = refl
+
+-- ---- not free, and told by no trace from a new table
+-- release leaves the flags as they were, also where `send` is set and `poll` clear, as only a table that is passed in can have them
+pub release-keeps-flags : (p : Phase) (h : Thread) → ownAfter (freeTarget p) h .flags ≡ h .flags
+unfolding ownAfter
+release-keeps-flags p h = refl

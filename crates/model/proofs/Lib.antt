@@ -7,7 +7,9 @@ pub mod Tested
 pub mod Replay
 pub mod Computing
 pub mod Examples
+pub mod Answered
 pub mod Replays
+pub mod Forbidden
 pub mod Clauses
 pub mod Making
 pub mod Printed

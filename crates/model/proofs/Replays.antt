@@ -17,7 +17,7 @@ use Rattle.model.proofs.Computing.{computing}
 -- a trace, by what it shows
 pub data TraceName : Type 0 where
   ready-at-time-0 sender-waits-at-time-0 time-runs-out marked-receiver receiver-still-sending : TraceName
-  new-time-for-the-receive no-time-for-the-receive mark-kept-past-the-send receive-dropped-with-the-send received-in-wake : TraceName
+  new-time-for-the-receive no-time-for-the-receive mark-kept-past-the-send receive-dropped-with-the-send received-in-wake received-in-unlock received-in-release : TraceName
   words-of-two-messages cancels-answered begins-refused : TraceName
 
 -- its calls, on a new table of three threads
@@ -41,9 +41,15 @@ calls mark-kept-past-the-send =
     begin 1 (receiveOnly (openFor 15)) ∷ begin 0 (sendTo 1 (250 ∷ []) 15 (openFor 15)) ∷ steps 2 0 ++ cancel 0 ∷ steps 3 0 ++ begin 2 (sendTo 0 (9 ∷ []) 15 Absent) ∷ steps 5 2
 -- the send part of a call is aborted, and its receive part with it
 calls receive-dropped-with-the-send = begin 0 (sendTo 1 (250 ∷ []) 0 (openFor 15)) ∷ steps 3 0
--- 1 is waking 0 when 2 delivers to it
+-- 1 is waking 0 when 2, with no time left, delivers to it
 calls received-in-wake =
-    begin 0 (sendTo 1 (250 ∷ []) 15 Absent) ∷ steps 3 0 ++ begin 1 (receiveOnly (openFor 15)) ∷ steps 1 1 ++ begin 2 (sendTo 1 (9 ∷ []) 15 Absent) ∷ steps 5 2 ++ steps 3 1 ++ steps 4 0
+    begin 0 (sendTo 1 (250 ∷ []) 15 Absent) ∷ steps 3 0 ++ begin 1 (receiveOnly (openFor 15)) ∷ steps 1 1 ++ begin 2 (sendTo 1 (9 ∷ []) 0 Absent) ∷ steps 5 2 ++ steps 3 1 ++ steps 4 0
+-- 1 has woken 0 and holds its lock when 2, with no time left, delivers to it
+calls received-in-unlock =
+    begin 0 (sendTo 1 (250 ∷ []) 15 Absent) ∷ steps 3 0 ++ begin 1 (receiveOnly (openFor 15)) ∷ steps 2 1 ++ begin 2 (sendTo 1 (9 ∷ []) 0 Absent) ∷ steps 5 2 ++ steps 2 1
+-- 0 has sent its call and still holds 1's lock when 2, with no time left, delivers to it
+calls received-in-release =
+    begin 1 (receiveOnly (openFor 15)) ∷ begin 0 (sendTo 1 (5 ∷ []) 15 (openFor 15)) ∷ steps 4 0 ++ begin 2 (sendTo 0 (9 ∷ []) 0 Absent) ∷ steps 5 2 ++ steps 1 0
 -- 1 and 2 receive; 0 sends two words to 2, then one to 1
 calls words-of-two-messages =
     begin 1 (receiveOnly (openFor 15)) ∷ begin 2 (receiveOnly (openFor 15)) ∷ begin 0 (sendTo 2 (5 ∷ 6 ∷ []) 15 Absent) ∷ steps 6 0 ++ begin 0 (sendTo 1 (7 ∷ []) 15 Absent) ∷ tick ∷ steps 5 0
@@ -72,6 +78,8 @@ replays no-time-for-the-receive = refl
 replays mark-kept-past-the-send = refl
 replays receive-dropped-with-the-send = refl
 replays received-in-wake = refl
+replays received-in-unlock = refl
+replays received-in-release = refl
 replays words-of-two-messages = refl
 replays cancels-answered = refl
 replays begins-refused = refl
