@@ -109,12 +109,12 @@ pub fn step(table: Table, x: u8, store: &mut [u32]) -> Returned
             table: table,
         };
     }
-    let o = phases::other_number(own);
-    let j = other_or_own(o, x) as usize;
+    let other_number = phases::other_number(own);
+    let j = other_or_own(other_number, x) as usize;
     let other = table.threads[j];
-    let a = 8 * j;
-    let e = a + 8;
-    let change = phases::step_threads(x, o, own, other, &mut store[a..e]);
+    let start = 8 * j;
+    let end = start + 8;
+    let change = phases::step_threads(x, other_number, own, other, &mut store[start..end]);
     let answer = change.answer;
     let ending = change.ending;
     let mut next = table;

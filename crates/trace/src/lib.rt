@@ -61,12 +61,12 @@ pub fn play(from: Playback, store: &mut [u32], bytes: &[u8]) -> Played
             if own.owner != threads::NOBODY {
                 continue;
             }
-            let o = phases::other_number(own);
-            let j = core::other_or_own(o, x) as usize;
+            let other_number = phases::other_number(own);
+            let j = core::other_or_own(other_number, x) as usize;
             let other = now.threads[j];
-            let a = 8 * j;
-            let e = a + 8;
-            let change = phases::step_threads(x, o, own, other, &mut store[a..e]);
+            let start = 8 * j;
+            let end = start + 8;
+            let change = phases::step_threads(x, other_number, own, other, &mut store[start..end]);
             let ending = change.ending;
             if actions::is_ending(ending) {
                 let mine = now.threads[i];

@@ -43,11 +43,11 @@ element-copy-out-other c =
     let asked = c .before .before .before .before .before .before .pre in
     other-in-array (c .before .before .before .before .before .before .args .x) _ asked (accepted-shaped _ _ asked _ (c .before .before .before .before .before .before .good .0)) _ _ (c .before .other-number .ensures) (c .other-or-own .ensures)
 
-mul-a : tie.Need-mul-a
-mul-a c = search needs
+mul-start : tie.Need-mul-start
+mul-start c = search needs
 
-add-e : tie.Need-add-e
-add-e c = search needs
+add-end : tie.Need-add-end
+add-end c = search needs
 
 mul-step-threads : tie.Need-mul-step-threads
 mul-step-threads c = search needs
@@ -161,8 +161,8 @@ step-spec =
     cast-j
     mul-other
     element-copy-out-other
-    mul-a
-    add-e
+    mul-start
+    add-end
     mul-step-threads
     sub-step-threads
     part-step-threads-start

@@ -166,13 +166,13 @@ element-copy-out-other c =
     let so-far = c .before .before .before .before .before .before .before .before .before .before .before .before .before .before .before .loop .inv in
     other-in-array _ _ (step-runs so-far (sym (c .before .before .before .before .before .before .before .before .before .before .before .before .before .is-lawful .ensures) ∙ c .before .before .before .before .before .before .before .before .before .before .before .before .if1 .taken) (c .before .before .before .before .before .before .if3 .left)) (so-far .runnable .checked .shaped) _ _ (c .before .other-number .ensures) (c .other-or-own .ensures)
 
-mul-a : tie.Need-mul-a Inv-loop2 μ-loop2 Inv-loop μ-loop
+mul-start : tie.Need-mul-start Inv-loop2 μ-loop2 Inv-loop μ-loop
 unfolding at
-mul-a c = search needs
+mul-start c = search needs
 
-add-e : tie.Need-add-e Inv-loop2 μ-loop2 Inv-loop μ-loop
+add-end : tie.Need-add-end Inv-loop2 μ-loop2 Inv-loop μ-loop
 unfolding at
-add-e c = search needs
+add-end c = search needs
 
 mul-step-threads : tie.Need-mul-step-threads Inv-loop2 μ-loop2 Inv-loop μ-loop
 unfolding at
@@ -544,8 +544,8 @@ play-spec =
     cast-j
     mul-other
     element-copy-out-other
-    mul-a
-    add-e
+    mul-start
+    add-end
     mul-step-threads
     sub-step-threads
     part-step-threads-start
