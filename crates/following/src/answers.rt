@@ -2,9 +2,9 @@
 use crate::lines::print_line;
 use libc::STDOUT_FILENO;
 use model::Answer;
-use printing::put_byte;
-use printing::put_number;
-use printing::put_text;
+use text::put_byte;
+use text::put_number;
+use text::put_text;
 
 // An answer in words, a refusal with its number.
 fn put_answer(out: &mut [u8], start: usize, answer: Answer) -> usize {

@@ -14,7 +14,7 @@ fn lesser(a: usize, b: usize) -> usize
 
 // Ends the line at a place and prints it.
 pub fn print_line(out: &mut [u8], end: usize) {
-    let ended = printing::put_byte(out, end, b'\n');
+    let ended = text::put_byte(out, end, b'\n');
     let stop = lesser(ended, out.len());
     io::write_all(STDOUT_FILENO, &out[0..stop]);
 }

@@ -1,11 +1,11 @@
--- Laws of texts that stand one behind the other, and of the words that are printed.
+-- Laws of the words that are printed, and of texts that stand one behind the other.
 use mathlib.Core.Path.{_≡_, refl, ap, sym, _∙_}
-use mathlib.Core.List.{List, [], _∷_, _++_, map-append, append-nil, append-assoc}
-use Prim.Native.Nat.{ℕ, _+_, _-_, _*_, _≤_, _<_, min}
+use mathlib.Core.List.{List, [], _∷_, _++_}
+use Prim.Native.Nat.{ℕ, _+_, _-_, _*_, _≤_, min}
 use native.Mathlib.Omega.{arith}
 use native.Mathlib.Numerals.{add-one}
-use lib.ListN.{length, take, drop, getD, length-take, length-drop, drop-of-length-le, List·getD-eq-default}
-use lib.Seq.{take-suc, take-all, take-take, take-length, drop-length}
+use lib.ListN.{length, take, drop, length-take, length-drop, drop-of-length-le, List·getD-eq-default}
+use lib.Seq.{take-all, take-take, take-length, drop-length}
 use lib.Dec.{leb}
 use borrow.Author.Tests.{leb-true, leb-false}
 use Rattle.model.specs.Lists.{upTo, concat}
@@ -14,34 +14,13 @@ use Rattle.model.specs.declared.Table.{Table}
 use Rattle.model.specs.Threads.{at, zeroThread, wordsAt}
 use Rattle.model.specs.Calls.{State}
 use Rattle.model.specs.Promise.{view}
-use Rattle.model.specs.Bondtrace.{ascii, decimal, threadLine}
+use Rattle.model.specs.Bondtrace.{ascii, Tally, threadLine, finalText}
 use Rattle.model.proofs.Laws.{by}
-use Rattle.printing.specs.Texts.{spaced, outcomeText, threadsText}
-use Rattle.printing.specs.Writing.{Written}
-use Rattle.printing.proofs.Writing.{_then_}
-
--- a text behind texts
-pub concat-snoc : (texts : List (List ℕ)) (text : List ℕ) → concat (texts ++ (text ∷ [])) ≡ concat texts ++ text
-unfolding concat
-concat-snoc [] text = append-nil text
-concat-snoc (first ∷ texts) text = ap (λ (l : List ℕ). first ++ l) (concat-snoc texts text) ∙ sym (append-assoc first (concat texts) text)
-
--- ---- words
--- no word is no text
-pub spaced-none : (words : List ℕ) → spaced (take 0 words) ≡ []
-unfolding spaced concat
-spaced-none words = refl
-
-module _ (words : List ℕ) (i : ℕ) {start middle : ℕ} {before between : List ℕ} (v : Written start (spaced (take i words)) before between middle) where
-  -- the first i words and then a space and the next are the first i + 1
-  pub one-more-word : {spot stop : ℕ} {after behind : List ℕ} → i < length words
-      → Written middle (32 ∷ []) between after spot → Written spot (decimal (getD words i 0)) after behind stop → Written start (spaced (take (i + 1) words)) before behind stop
-  unfolding spaced ascii upTo
-  one-more-word inside space number = rw (add-one, take-suc words i 0 inside, map-append, concat-snoc) (v then (space then number))
-
-  -- at the end they are all of them
-  pub all-words : length words ≤ i → Written start (spaced words) before between middle
-  all-words passed = rw (take-all i words passed) at v
+use Rattle.laws.proofs.Joined.{concat-snoc}
+use Rattle.text.specs.Texts.{spaced, numbersLine}
+use Rattle.text.specs.Writing.{Written}
+use Rattle.text.proofs.Writing.{_then_}
+use Rattle.printing.specs.Texts.{outcomeText, threadsText}
 
 -- ---- the words of a thread in a store that may be short
 -- as many are left out as there are, where more are to be
@@ -92,3 +71,11 @@ one-more-thread s x v w = rw (add-one, concat-snoc) (v then w)
 pub outcome-past : (t : Table) (x : ℕ) → length (t .threads) ≤ x → at t x .outcome ≡ zeroThread .outcome
 unfolding at
 outcome-past t x past = ap (λ (h : Thread). h .outcome) (List·getD-eq-default (t .threads) zeroThread past)
+
+-- ---- the whole text
+-- the first line and then the lines of all threads are the final text
+pub final-written : (p : Tally) {middle stop : ℕ} {before between after : List ℕ}
+    → Written 0 (numbersLine (ascii "records ") (p .records) (ascii " refused ") (p .refused)) before between middle → Written middle (threadsText (p .now) (p .now .table .n)) between after stop
+    → Written 0 (finalText p) before after stop
+unfolding finalText numbersLine threadsText
+final-written p v w = v then w

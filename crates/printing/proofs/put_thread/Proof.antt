@@ -2,7 +2,7 @@ use borrow.Author.Needs.{needs}
 use Rattle.model.specs.Promise.{view}
 use Rattle.printing.proofs.Bounds.{line-short}
 use Rattle.printing.proofs.Texts.{line-parts}
-use Rattle.printing.proofs.Writing.{_then_}
+use Rattle.text.proofs.Writing.{_then_}
 use Rattle.printing.proofs.put_thread.Statement.{statement}
 use Rattle.printing.proofs.put_thread.Tie as tie
 

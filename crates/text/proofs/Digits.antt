@@ -1,12 +1,14 @@
--- The digits that `io::decimal` makes of a number are the model's.
+-- The digits that `io::decimal` makes of a number are the model's, and how many there are at most.
 use mathlib.Core.Path.{_≡_, refl}
+use mathlib.Core.List.{[], _∷_}
 use Prim.Native.Nat.{ℕ, zero, suc, _-_, _/_, _%_, _^_, _≤_, _<_}
 use native.Mathlib.Omega.{arith}
 use native.Mathlib.Nat.{mod-lt, mod-eq-of-lt, le-div-iff-mul-le, div-lt-iff-lt-mul, one-le-pow}
+use lib.ListN.{length, length-append}
 use lib.Dec.{ltb}
 use borrow.Author.Tests.{lt-ltb, le-ltb, ltb-true, ltb-false}
 use Rattle.io.specs.Digits.{Fewest, digits as spelled}
-use Rattle.model.specs.Bondtrace.{digits, decimal}
+use Rattle.model.specs.Bondtrace.{digit, digits, decimal}
 use Rattle.model.proofs.Laws.{by}
 
 -- a number is below its power of ten
@@ -36,3 +38,17 @@ decimal-spelled n (suc k) fewest = same-digits k n n few (fewest .1) large
 
     few : k ≤ n
     few = by (ltb 0 k) (λ e. omega (arith, below-power k, large (ltb-true 0 k e))) (λ e. omega (arith, ltb-false 0 k e))
+
+-- a number below 10 to the k + 1 has at most k + 1 digits
+digits-short : (most k n : ℕ) → n < 10 ^ suc k → length (digits most n) ≤ suc k
+unfolding digits
+digits-short zero k n small = omega arith
+digits-short (suc most) zero n small = let h : n < 10 = omega arith in rw (lt-ltb n 10 h) (omega arith)
+digits-short (suc most) (suc k) n small = by (ltb n 10)
+    (λ e. rw e (omega arith))
+    (λ e. rw e (omega (arith, length-append (digits most (n / 10)) (digit (n % 10) ∷ []), digits-short most k (n / 10) (div-lt-iff-lt-mul (omega arith) .1 (omega arith)))))
+
+-- the same of its text
+pub decimal-short : (k n : ℕ) → n < 10 ^ suc k → length (decimal n) ≤ suc k
+unfolding decimal
+decimal-short k n small = digits-short (suc n) k n small

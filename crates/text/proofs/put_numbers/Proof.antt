@@ -1,10 +1,10 @@
 use borrow.Author.Needs.{needs}
 use Rattle.model.specs.Bondtrace.{ascii}
 use Rattle.model.specs.Lists.{upTo}
-use Rattle.printing.specs.Texts.{numbersLine}
-use Rattle.printing.proofs.Writing.{_then_}
-use Rattle.printing.proofs.put_numbers.Statement.{statement}
-use Rattle.printing.proofs.put_numbers.Tie as tie
+use Rattle.text.specs.Texts.{numbersLine}
+use Rattle.text.proofs.Writing.{_then_}
+use Rattle.text.proofs.put_numbers.Statement.{statement}
+use Rattle.text.proofs.put_numbers.Tie as tie
 
 put-text-requires : tie.Need-put-text-requires
 put-text-requires c κs = search needs

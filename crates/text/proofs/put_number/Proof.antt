@@ -1,8 +1,8 @@
 use mathlib.Core.Path.{_∙_}
 use borrow.Author.Needs.{needs}
-use Rattle.printing.proofs.Digits.{decimal-spelled}
-use Rattle.printing.proofs.put_number.Statement.{statement}
-use Rattle.printing.proofs.put_number.Tie as tie
+use Rattle.text.proofs.Digits.{decimal-spelled}
+use Rattle.text.proofs.put_number.Statement.{statement}
+use Rattle.text.proofs.put_number.Tie as tie
 
 decimal-requires : tie.Need-decimal-requires
 decimal-requires c κs = search needs

@@ -1,9 +1,9 @@
 use mir.Facts.{toZ-ofZ}
 use borrow.Author.Needs.{needs}
-use Rattle.printing.proofs.Signs.{signed-below, signed-from-zero}
-use Rattle.printing.proofs.Writing.{_then_}
-use Rattle.printing.proofs.put_signed.Statement.{statement}
-use Rattle.printing.proofs.put_signed.Tie as tie
+use Rattle.text.proofs.Signs.{signed-below, signed-from-zero}
+use Rattle.text.proofs.Writing.{_then_}
+use Rattle.text.proofs.put_signed.Statement.{statement}
+use Rattle.text.proofs.put_signed.Tie as tie
 
 magnitude-requires : tie.Need-magnitude-requires
 magnitude-requires c κs = search needs

@@ -1,10 +1,10 @@
 use Prim.Native.Nat.{_-_, _≤_}
 use lib.ListN.{length, take}
 use borrow.Author.Needs.{needs}
-use Rattle.printing.specs.Writing.{Written}
-use Rattle.printing.proofs.Writing.{nothing-written, one-more-byte, all-bytes, written-length}
-use Rattle.printing.proofs.put_text.Statement.{statement}
-use Rattle.printing.proofs.put_text.Tie as tie
+use Rattle.text.specs.Writing.{Written}
+use Rattle.text.proofs.Writing.{nothing-written, one-more-byte, all-bytes, written-length}
+use Rattle.text.proofs.put_text.Statement.{statement}
+use Rattle.text.proofs.put_text.Tie as tie
 
 -- the first i bytes are written
 abbrev Inv-loop : tie.InvT-loop

@@ -1,7 +1,7 @@
 use borrow.Author.Needs.{needs}
-use Rattle.printing.proofs.Writing.{byte-left-out, byte-written}
-use Rattle.printing.proofs.put_byte.Statement.{statement}
-use Rattle.printing.proofs.put_byte.Tie as tie
+use Rattle.text.proofs.Writing.{byte-left-out, byte-written}
+use Rattle.text.proofs.put_byte.Statement.{statement}
+use Rattle.text.proofs.put_byte.Tie as tie
 
 returns : tie.Need-returns
 returns c = byte-left-out _ _ _ (c .if1 .taken)

@@ -1,9 +1,10 @@
--- A code's sign and magnitude, and its text.
+-- A code's sign and magnitude, its text, and how long that is at most.
 use mathlib.Core.Path.{_≡_, refl}
 use mathlib.Core.Bool.{true, false}
 use mathlib.Core.List.{[], _∷_, _++_}
-use Prim.Native.Nat.{ℕ, suc}
+use Prim.Native.Nat.{ℕ, suc, _^_, _≤_, _<_}
 use native.Mathlib.Omega.{arith}
+use lib.ListN.{length}
 use lib.IntN.{ℤ, pos, negsuc, natAbs, _-ℤ_, +ℤ-idl}
 use lib.Signed.{ltZ, nonNeg}
 use lib.Dec.{T}
@@ -13,6 +14,7 @@ use mir.Facts.{toZ-ofZ, sfits-widen, fits-natAbs}
 use borrow.Author.Tests.{ltb-true}
 use Rattle.model.specs.Lists.{upTo}
 use Rattle.model.specs.Bondtrace.{ascii, decimal, signed}
+use Rattle.text.proofs.Digits.{decimal-short}
 
 -- a code below zero is zero less its magnitude
 pub negated : (z : ℤ) → ltZ z (pos 0) ≡ true → pos 0 -ℤ z ≡ pos (natAbs z)
@@ -35,6 +37,12 @@ pub signed-from-zero : (z : ℤ) → ltZ z (pos 0) ≡ false → signed z ≡ de
 unfolding signed
 signed-from-zero (pos n) e = refl
 signed-from-zero (negsuc n) e = cc
+
+-- a code of at most k + 1 digits has one byte more, for its sign
+pub signed-short : (k : ℕ) (code : ℤ) → natAbs code < 10 ^ suc k → length (signed code) ≤ suc (suc k)
+unfolding signed ascii upTo
+signed-short k (pos n) small = omega (arith, decimal-short k n small)
+signed-short k (negsuc n) small = omega (arith, decimal-short k (suc n) small)
 
 module _ (z : ℤ) (fits : SFits w32 z) where
   -- a code reads back from 32 bits and from 64

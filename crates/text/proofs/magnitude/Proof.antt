@@ -1,8 +1,8 @@
 use mathlib.Core.Path.{refl}
 use mir.Facts.{toZ-ofZ, fits-natAbs}
-use Rattle.printing.proofs.Signs.{negated, not-negative, fits-wide, reads-back, magnitude-fits}
-use Rattle.printing.proofs.magnitude.Statement.{statement}
-use Rattle.printing.proofs.magnitude.Tie as tie
+use Rattle.text.proofs.Signs.{negated, not-negative, fits-wide, reads-back, magnitude-fits}
+use Rattle.text.proofs.magnitude.Statement.{statement}
+use Rattle.text.proofs.magnitude.Tie as tie
 
 cast-wide : tie.Need-cast-wide
 cast-wide c = fits-wide _ (c .fits .code)

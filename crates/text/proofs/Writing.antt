@@ -9,7 +9,7 @@ use lib.Seq.{sets, length-sets, set-out, sets-eq, take-suc, take-all, length-tak
 use lib.Dec.{leb}
 use borrow.Author.Tests.{leb-true, leb-false}
 use Rattle.model.proofs.Laws.{by}
-use Rattle.printing.specs.Writing.{Written, Printed}
+use Rattle.text.specs.Writing.{Written, Printed}
 
 -- past the end nothing is stored
 sets-out : (text l : List ℕ) (i : ℕ) → length l ≤ i → sets l i text ≡ l

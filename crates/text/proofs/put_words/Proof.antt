@@ -2,13 +2,12 @@ use Prim.Native.Nat.{_-_, _≤_}
 use native.Mathlib.Omega.{arith}
 use lib.ListN.{length, take}
 use borrow.Author.Needs.{needs}
-use Rattle.printing.specs.Texts.{spaced}
-use Rattle.printing.specs.Writing.{Written}
-use Rattle.printing.proofs.Bounds.{spaced-short}
-use Rattle.printing.proofs.Writing.{nothing-written, written-length}
-use Rattle.printing.proofs.Texts.{spaced-none, one-more-word, all-words}
-use Rattle.printing.proofs.put_words.Statement.{statement}
-use Rattle.printing.proofs.put_words.Tie as tie
+use Rattle.text.specs.Texts.{spaced}
+use Rattle.text.specs.Writing.{Written}
+use Rattle.text.proofs.Writing.{nothing-written, written-length}
+use Rattle.text.proofs.Words.{spaced-none, one-more-word, all-words, spaced-short}
+use Rattle.text.proofs.put_words.Statement.{statement}
+use Rattle.text.proofs.put_words.Tie as tie
 
 -- the first i words are written
 abbrev Inv-loop : tie.InvT-loop

@@ -1,0 +1,17 @@
+-- Words and numbers as text, and the most bytes that a word has.
+use mathlib.Core.List.{List, _++_, map}
+use Prim.Native.Nat.{ℕ}
+use Rattle.model.specs.Lists.{concat}
+use Rattle.model.specs.Bondtrace.{ascii, decimal}
+
+-- words, each behind a space
+unfoldable pub spaced : List ℕ → List ℕ
+spaced words = concat (map (λ word. ascii " " ++ decimal word) words)
+
+-- a line of two numbers, each behind its name
+unfoldable pub numbersLine : List ℕ → ℕ → List ℕ → ℕ → List ℕ
+numbersLine name n next m = name ++ decimal n ++ next ++ decimal m ++ ascii "\n"
+
+-- the most bytes of a word behind a space: 1 + 10
+abbrev pub longestWord : ℕ
+longestWord = 11
