@@ -1,54 +1,21 @@
--- Laws of the words that are printed, and of texts that stand one behind the other.
-use mathlib.Core.Path.{_≡_, refl, ap, sym, _∙_}
+-- Laws of the lines of threads, of one line behind the others, and of the whole text.
+use mathlib.Core.Path.{_≡_, refl, ap}
 use mathlib.Core.List.{List, [], _∷_, _++_}
-use Prim.Native.Nat.{ℕ, _+_, _-_, _*_, _≤_, min}
-use native.Mathlib.Omega.{arith}
+use Prim.Native.Nat.{ℕ, _+_, _≤_}
 use native.Mathlib.Numerals.{add-one}
-use lib.ListN.{length, take, drop, length-take, length-drop, drop-of-length-le, List·getD-eq-default}
-use lib.Seq.{take-all, take-take, take-length, drop-length}
-use lib.Dec.{leb}
-use borrow.Author.Tests.{leb-true, leb-false}
+use lib.ListN.{length, List·getD-eq-default}
 use Rattle.model.specs.Lists.{upTo, concat}
 use Rattle.model.specs.declared.Thread.{Thread}
 use Rattle.model.specs.declared.Table.{Table}
-use Rattle.model.specs.Threads.{at, zeroThread, wordsAt}
+use Rattle.model.specs.Threads.{at, zeroThread}
 use Rattle.model.specs.Calls.{State}
 use Rattle.model.specs.Promise.{view}
 use Rattle.model.specs.Bondtrace.{ascii, Tally, threadLine, finalText}
-use Rattle.model.proofs.Laws.{by}
 use Rattle.laws.proofs.Joined.{concat-snoc}
 use Rattle.text.specs.Texts.{spaced, numbersLine}
 use Rattle.text.specs.Writing.{Written}
 use Rattle.text.proofs.Writing.{_then_}
 use Rattle.printing.specs.Texts.{outcomeText, threadsText}
-
--- ---- the words of a thread in a store that may be short
--- as many are left out as there are, where more are to be
-drop-least : (a : ℕ) (l : List ℕ) → drop (min a (length l)) l ≡ drop a l
-drop-least a l = by (leb a (length l))
-    (λ e. let h = leb-true a (length l) e in let k : min a (length l) ≡ a = omega arith in rw k refl)
-    (λ e. let h = leb-false a (length l) e in let same : min a (length l) ≡ length l = omega arith in rw same (drop-length l ∙ sym (drop-of-length-le l {i = a} (omega arith))))
-
--- as many are taken as there are, where more are to be
-take-least : (k : ℕ) (l : List ℕ) → take (min k (length l)) l ≡ take k l
-take-least k l = by (leb k (length l))
-    (λ e. let h = leb-true k (length l) e in let same : min k (length l) ≡ k = omega arith in rw same refl)
-    (λ e. let h = leb-false k (length l) e in let same : min k (length l) ≡ length l = omega arith in rw same (take-length l ∙ sym (take-all k l (omega arith))))
-
--- the first m of the first n are the first of the lesser number
-take-both : (m n : ℕ) (l : List ℕ) → take m (take n l) ≡ take (min m n) l
-take-both m n l = by (leb m n)
-    (λ e. let h = leb-true m n e in let same : min m n ≡ m = omega arith in rw same (take-take m n l h))
-    (λ e. let h = leb-false m n e in let same : min m n ≡ n = omega arith in rw same (take-all m (take n l) (omega (arith, length-take n l))))
-
--- the slice between two places that the store has is the first count words of thread x
-pub shown-there : (store : List ℕ) (x count : ℕ) {start most stop : ℕ} → start ≡ min (8 * x) (length store) → most ≡ min count 8 → stop ≡ min (start + most) (length store)
-    → take (stop - start) (drop start store) ≡ take count (wordsAt store x)
-unfolding wordsAt
-shown-there store x count {start} {most} {stop} starts few stops =
-    let own = drop (8 * x) store in
-    let e : stop - start ≡ min (min count 8) (length own) = omega (arith, length-drop (8 * x) store) in
-    rw (e, starts, drop-least, take-least) (sym (take-both count 8 own))
 
 -- ---- threads
 -- a thread's line by its parts

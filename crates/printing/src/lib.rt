@@ -1,8 +1,8 @@
 // What program `bondtrace` prints, written into a caller's bytes as far as they reach.
 ghost use mathlib.Core.Path.{_≡_};
-ghost use Prim.Native.Nat.{_*_, _≤_, min};
-ghost use lib.ListN.{length, take};
-ghost use Rattle.model.specs.Threads.{at, wordsAt};
+ghost use Prim.Native.Nat.{_*_, _≤_};
+ghost use lib.ListN.{length};
+ghost use Rattle.model.specs.Threads.{at};
 ghost use Rattle.model.specs.Promise.{state};
 ghost use Rattle.model.specs.Bondtrace.{threadLine, finalText, badLine};
 ghost use Rattle.text.specs.Writing.{Written, Printed};
@@ -17,26 +17,6 @@ use text::put_number;
 use text::put_numbers;
 use text::put_signed;
 use text::put_words;
-
-// The lesser of two numbers.
-fn lesser(a: usize, b: usize) -> usize
-    ensures { λ r. ⌜ r ≡ min a b ⌝ }
-{
-    if a < b {
-        return a;
-    }
-    b
-}
-
-// The first count of thread x's eight words, as far as the store has them.
-pub fn shown_words<'a>(store: &'a [u32], x: u8, count: u8) -> &'a [u32]
-    ensures { λ r. ⌜ now r ≡ take count (wordsAt (now (store .entry)) x) ⌝ }
-{
-    let first = lesser(8 * (x as usize), store.len());
-    let most = lesser(count as usize, 8);
-    let end = lesser(first + most, store.len());
-    &store[first..end]
-}
 
 // A thread's number, and its code, source and count.
 fn put_outcome(out: &mut [u8], start: usize, x: u8, shown: Outcome) -> usize
@@ -57,7 +37,7 @@ fn put_thread(out: &mut [u8], start: usize, x: u8, shown: Outcome, store: &[u32]
     ensures { λ r. ⌜ ((t : Table) → at t x .outcome ≡ shown → Written start (threadLine (state t (now (store .entry))) x) (now (out .entry)) (now (out .exit)) r) ⌝ }
     ensures { λ _. ⌜ ((t : Table) → at t x .outcome ≡ shown → length (threadLine (state t (now (store .entry))) x) ≤ longestLine) ⌝ }
 {
-    let words = shown_words(store, x, shown.count);
+    let words = words::first_words(store, x, shown.count);
     let told = put_outcome(out, start, x, shown);
     let ended = put_words(out, told, words);
     put_byte(out, ended, NEWLINE)
