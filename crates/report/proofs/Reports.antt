@@ -20,7 +20,7 @@ use Rattle.model.proofs.Laws.{same?, length-up-to}
 use Rattle.model.proofs.Numbers.{size-read}
 use Rattle.laws.proofs.Lists.{zero-or-not}
 use Rattle.laws.proofs.Rows.{none-holds}
-use Rattle.outcomes.specs.Report.{allOutcomes, Reported}
+use Rattle.report.specs.Report.{allOutcomes, Reported}
 
 -- ---- filling records
 -- the outcome of thread x

@@ -1,9 +1,9 @@
 use mathlib.Core.Path.{sym, _∙_}
 use borrow.Author.Needs.{needs}
 use Rattle.laws.proofs.Groups.{report-table, report-length}
-use Rattle.outcomes.proofs.Reports.{refused-report, accepted-report}
-use Rattle.outcomes.proofs.reported.Statement.{statement}
-use Rattle.outcomes.proofs.reported.Tie as tie
+use Rattle.report.proofs.Reports.{refused-report, accepted-report}
+use Rattle.report.proofs.reported.Statement.{statement}
+use Rattle.report.proofs.reported.Tie as tie
 
 outcomes-of-requires : tie.Need-outcomes-of-requires
 outcomes-of-requires c κs = search needs

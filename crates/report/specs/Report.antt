@@ -1,4 +1,4 @@
--- What the report call works from.
+-- When a report is right.
 use mathlib.Core.Path.{_≡_}
 use mathlib.Core.List.{List}
 use Prim.Native.Nat.{ℕ}
@@ -9,7 +9,7 @@ use Rattle.model.specs.Lists.{upTo}
 use Rattle.model.specs.Answers.{accepted, refused, replied, said}
 use Rattle.model.specs.Threads.{at}
 use Rattle.model.specs.Refusals.{unless, reportRefusal}
-use Rattle.outcomes.specs.declared.Report.{Report}
+use Rattle.report.specs.declared.Report.{Report}
 
 -- the outcome that is read past an array's end
 abbrev pub zeroOutcome : Outcome
@@ -19,7 +19,7 @@ zeroOutcome = record { code = pos 0; source = 0; count = 0 }
 unfoldable pub allOutcomes : Table → List Outcome
 allOutcomes t = upTo 32 (λ x. at t x .outcome)
 
--- what the report call works from: its answer, how many of the caller's records it fills, none where it is refused, and the outcomes
+-- a report is right for a table and a number of the caller's records
 pub record Reported (t : Table) (records : ℕ) (r : Report) : Type 0 where
   pub answers : said (r .answer) ≡ unless (reportRefusal t records) refused (replied accepted)
   pub fills : r .len ≡ unless (reportRefusal t records) (λ g. 0) records

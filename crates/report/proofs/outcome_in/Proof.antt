@@ -2,9 +2,9 @@ use mathlib.Core.Path.{_≡_, sym, _∙_}
 use native.Mathlib.Omega.{arith}
 use lib.ListN.{length, length-map, List·getD-eq-default}
 use borrow.Author.Needs.{needs}
-use Rattle.outcomes.specs.Report.{zeroOutcome}
-use Rattle.outcomes.proofs.outcome_in.Statement.{statement}
-use Rattle.outcomes.proofs.outcome_in.Tie as tie
+use Rattle.report.specs.Report.{zeroOutcome}
+use Rattle.report.proofs.outcome_in.Statement.{statement}
+use Rattle.report.proofs.outcome_in.Tie as tie
 
 zero-outcome-requires : tie.Need-zero-outcome-requires
 zero-outcome-requires c κs = search needs

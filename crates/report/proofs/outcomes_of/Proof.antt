@@ -4,10 +4,10 @@ use native.Mathlib.Omega.{arith}
 use lib.ListN.{length}
 use borrow.Author.Needs.{needs}
 use Rattle.model.specs.Threads.{at}
-use Rattle.outcomes.proofs.Reports.{filled, filled-none, filled-more, filled-all}
-use Rattle.outcomes.specs.Report.{allOutcomes}
-use Rattle.outcomes.proofs.outcomes_of.Statement.{statement}
-use Rattle.outcomes.proofs.outcomes_of.Tie as tie
+use Rattle.report.proofs.Reports.{filled, filled-none, filled-more, filled-all}
+use Rattle.report.specs.Report.{allOutcomes}
+use Rattle.report.proofs.outcomes_of.Statement.{statement}
+use Rattle.report.proofs.outcomes_of.Tie as tie
 
 -- the outcomes of the first i threads are gathered
 abbrev Inv-loop : tie.InvT-loop
