@@ -8,6 +8,7 @@ use lib.ListN.{length, take, drop, getD, set, length-append}
 use lib.Seq.{sets, length-sets, set-out, sets-eq, take-suc, take-all, length-take-le, take-append-seam}
 use lib.Dec.{leb}
 use borrow.Author.Tests.{leb-true, leb-false}
+use Rattle.io.specs.Counts.{Counts}
 use Rattle.model.proofs.Laws.{by}
 use Rattle.text.specs.Writing.{Written, Printed}
 
@@ -65,11 +66,13 @@ module _ (text : List ℕ) (i : ℕ) {start middle : ℕ} {before between : List
   all-bytes passed = rw (take-all i text passed) at v
 
 -- ---- a text that is printed
--- one that is written from the first byte on, and is short, is printed
+-- the place behind one that is written from the first byte on counts bytes that are there
+pub written-counts : {text before after : List ℕ} {stop : ℕ} → Written 0 text before after stop → Counts stop after
+written-counts {after = after} {stop} w = let inside : stop ≤ length after = omega (arith, written-length w, w .place) in (inside, sym (length-take-le stop after inside))
+
+-- one that is short besides is printed
 pub printed : {text before after : List ℕ} {stop most : ℕ} → Written 0 text before after stop → length text ≤ most → Printed text most before after stop
-printed {after = after} {stop} w short =
-    let inside : stop ≤ length after = omega (arith, written-length w, w .place) in
-    record { written = w; counts = (inside, sym (length-take-le stop after inside)); short = short }
+printed w short = record { written = w; counts = written-counts w; short = short }
 
 -- where the bytes are as many as it has at most, all of it is written
 pub printed-whole : {text before after : List ℕ} {stop most : ℕ} → Printed text most before after stop → most ≤ length before → take stop after ≡ text

@@ -5,8 +5,10 @@ ghost use Prim.Native.Nat.{_*_, _≤_};
 ghost use lib.ListN.{length};
 ghost use lib.IntN.{natAbs};
 ghost use Rattle.model.specs.Bondtrace.{decimal, signed};
-ghost use Rattle.text.specs.Texts.{spaced, numbersLine, longestWord};
+ghost use Rattle.text.specs.Texts.{spaced, numbersLine, answerText, longestWord};
 ghost use Rattle.text.specs.Writing.{Written};
+use libc::STDOUT_FILENO;
+use model::Answer;
 
 // What stands between two words of a line.
 pub const SPACE: u8 = b' ';
@@ -97,4 +99,31 @@ pub fn put_numbers(out: &mut [u8], name: &[u8], n: u64, next: &[u8], m: u64) -> 
     let again = put_text(out, first, next);
     let second = put_number(out, again, m);
     put_byte(out, second, NEWLINE)
+}
+
+// An answer in words, a refusal with its number.
+pub fn put_answer(out: &mut [u8], start: usize, answer: Answer) -> usize
+    ensures { λ r. ⌜ Written start (answerText answer) (now (out .entry)) (now (out .exit)) r ⌝ }
+{
+    match answer {
+        Answer::Refused(number) => {
+            let end = put_text(out, start, b"refused ");
+            put_number(out, end, number as u64)
+        }
+        Answer::Accepted => put_text(out, start, b"accepted"),
+        Answer::Marked => put_text(out, start, b"marked"),
+        Answer::NothingToCancel => put_text(out, start, b"nothing to cancel"),
+        Answer::Moved => put_text(out, start, b"moved"),
+        Answer::Idle => put_text(out, start, b"idle"),
+        Answer::Held => put_text(out, start, b"held"),
+        Answer::Wants => put_text(out, start, b"wants"),
+        Answer::Asleep => put_text(out, start, b"asleep"),
+    }
+}
+
+// Prints an answer in words, without an end of line.
+pub fn print_answer(answer: Answer) {
+    let mut line = io::buffer();
+    let end = put_answer(&mut line, 0, answer);
+    io::write_all(STDOUT_FILENO, &line[..end]);
 }
