@@ -6,8 +6,7 @@ ghost use lib.ListN.{length, getD, set};
 ghost use Rattle.model.specs.Answers.{Reply, said, replied};
 ghost use Rattle.model.specs.Phases.{Phase, phaseNumber};
 ghost use Rattle.model.specs.Step.{Action, stay, takeLock, startCopy, toRelease, copyWord, freeTarget, retry, toIdle, takeSender, clearPoll, freeSender};
-ghost use Rattle.actions.specs.Acted.{keeping as Acted·keeping};
-ghost use Rattle.actions.specs.Acted.{ownChanged, otherChanged, endingAction, ends, Acted};
+ghost use Rattle.actions.specs.Acted.{keeping as Acted·keeping, ownChanged, otherChanged, endingAction, ends, Acted};
 use model::Answer;
 use model::Thread;
 

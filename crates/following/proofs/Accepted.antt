@@ -3,9 +3,7 @@ use mathlib.Core.Path.{_≡_, refl, sym, _∙_, ap}
 use mathlib.Core.Bool.{Bool, true, false, true≢false}
 use mathlib.Core.List.{List, [], _∷_}
 use Prim.Native.Nat.{ℕ, zero, suc, _≤_}
-use native.Mathlib.Omega.{arith}
 use lib.ListN.{length}
-use lib.Dec.{eqb}
 use borrow.Author.Tests.{not-false}
 use denote.Enum.Declared.{tagOf}
 use types.Run.{OneOf, miss}
@@ -15,15 +13,14 @@ use Rattle.model.specs.declared.Record.{Record}
 use Rattle.model.specs.declared.Table.{Table}
 use Rattle.model.specs.Threads.{newTable}
 use Rattle.model.specs.Answers.{Said, Reply, accepted, refused, replied, said}
-use Rattle.model.specs.Refusals.{unless, badSize, makeRefusal}
-use Rattle.model.specs.RecordBytes.{beginKind, recordLength, lawful}
+use Rattle.model.specs.Refusals.{unless, makeRefusal}
+use Rattle.model.specs.RecordBytes.{recordLength, lawful}
 use Rattle.model.specs.Decoding.{front, recordOf, unreadable, decodeRefusal, decodeAnswer, decode, DecodePromise}
 use Rattle.model.specs.Promise.{makeAnswer, MakePromise}
 use Rattle.model.proofs.Answer.{the-type}
-use Rattle.model.proofs.Laws.{by}
 use Rattle.model.proofs.Making.{made-new}
-use Rattle.model.proofs.Numbers.{size-read}
 use Rattle.laws.proofs.Rows.{none-holds}
+use Rattle.core.proofs.Kept.{new-sized}
 use Rattle.schedule.proofs.Fronts.{front-kind, lawful-long}
 
 -- the cases of an answer, by their numbers, but for the refusal, which is 0
@@ -65,15 +62,9 @@ record-whole first bytes a item promise other =
     let lawfully : lawful first (front bytes) ≡ true = not-false _ (none-holds (unreadable first bytes ∷ []) refl none .0) in
     rw (promise .reads, none, front-kind bytes) (lawful-long bytes first lawfully)
 
--- and they are at most 42
-pub record-most : (kind : ℕ) → recordLength kind ≤ 42
-unfolding recordLength
-record-most kind = by (eqb kind beginKind) (λ e. rw e (omega arith)) (λ e. rw e (omega arith))
-
 -- a table that was made has at most 32 threads
 pub made-size : (n : ℕ) (a : Answer) (made : Table) → MakePromise n a made → Accepts a → made .n ≤ 32
-unfolding makeAnswer makeRefusal badSize newTable
+unfolding makeAnswer newTable
 made-size n a made promise other =
-    let none : makeRefusal n ≡ 0 = no-ground a (makeRefusal n) accepted (promise .answers) other in
-    let (some, few) = size-read n (not-false _ (none-holds (badSize n ∷ []) refl none .0)) in
+    let (some, few) = new-sized n (no-ground a (makeRefusal n) accepted (promise .answers) other) in
     rw (promise .makes, made-new n some few) few

@@ -2,27 +2,9 @@
 use crate::lines::print_line;
 use libc::STDOUT_FILENO;
 use model::Answer;
-use printing::put_byte;
-use printing::put_number;
-use printing::put_text;
-
-// An answer in words, a refusal with its number.
-fn put_answer(out: &mut [u8], start: usize, answer: Answer) -> usize {
-    match answer {
-        Answer::Refused(number) => {
-            let end = put_text(out, start, b"refused ");
-            put_number(out, end, number as u64)
-        }
-        Answer::Accepted => put_text(out, start, b"accepted"),
-        Answer::Marked => put_text(out, start, b"marked"),
-        Answer::NothingToCancel => put_text(out, start, b"nothing to cancel"),
-        Answer::Moved => put_text(out, start, b"moved"),
-        Answer::Idle => put_text(out, start, b"idle"),
-        Answer::Held => put_text(out, start, b"held"),
-        Answer::Wants => put_text(out, start, b"wants"),
-        Answer::Asleep => put_text(out, start, b"asleep"),
-    }
-}
+use text::put_answer;
+use text::put_byte;
+use text::put_number;
 
 // Prints the answer to the table record, which is accepted.
 pub fn print_made() {

@@ -4,17 +4,17 @@ use model::Flags;
 use model::Outcome;
 use model::Queue;
 use model::Thread;
-use printing::put_byte;
-use printing::put_number;
-use printing::put_signed;
-use printing::put_text;
-use printing::put_words;
-use printing::shown_words;
+use text::put_byte;
+use text::put_number;
+use text::put_signed;
+use text::put_text;
+use text::put_words;
 use threads::COPY;
 use threads::NEVER;
 use threads::UNLOCK;
 use threads::WAKE;
 use threads::WORD_LIMIT;
+use words::first_words;
 
 // What stands for a field that is not in use.
 const UNUSED: u8 = b'-';
@@ -109,7 +109,7 @@ fn put_state(out: &mut [u8], start: usize, thread: Thread) -> usize {
 
 // The whole line: that, the outcome, the thread's eight words of the store and its queue.
 fn put_thread(out: &mut [u8], x: u8, thread: Thread, store: &[u32]) -> usize {
-    let words = shown_words(store, x, WORD_LIMIT);
+    let words = first_words(store, x, WORD_LIMIT);
     let numbered = put_spaced(out, 0, x);
     let stated = put_state(out, numbered, thread);
     let ended = put_outcome(out, stated, thread.outcome);

@@ -12,11 +12,11 @@ use model::Returned;
 use model::Table;
 use schedule::BEGIN_BYTES;
 
-// The byte up to which a schedule is followed: none is so long, and a record that starts before it ends at a byte with a number.
+// No schedule is followed past this byte, so that the count of bytes cannot overflow.
 const LAST_BYTE: u64 = u64::MAX - BEGIN_BYTES as u64;
 
-// A part of the buffer: the bytes from start to end.
-struct Part {
+// A slice of the buffer: the bytes from start to end.
+struct Span {
     start: usize,
     end: usize,
 }
@@ -29,7 +29,7 @@ struct Taken {
 }
 
 // The bytes not yet used, after more are read where the buffer's end may cut a record.
-fn unread(input: i32, buffer: &mut [u8], left: Part) -> Part
+fn unread(input: i32, buffer: &mut [u8], left: Span) -> Span
     requires { ⌜ (left .start ≤ left .end) × (left .end ≤ length (now buffer)) ⌝ }
     ensures { λ _. ⌜ length (now (buffer .exit)) ≡ length (now (buffer .entry)) ⌝ }
     ensures { λ r. ⌜ (r .start ≤ r .end) × (r .end ≤ length (now (buffer .exit))) ⌝ }
@@ -44,7 +44,7 @@ fn unread(input: i32, buffer: &mut [u8], left: Part) -> Part
         return left;
     }
     let filled = refill::refill(input, buffer, start, end);
-    Part {
+    Span {
         start: 0,
         end: filled,
     }
@@ -104,8 +104,8 @@ fn take(first: bool, bytes: &[u8]) -> Taken
     }
 }
 
-// Follows the records after the first, which stood before a part of the buffer.
-fn follow_rest(input: i32, buffer: &mut [u8], rest: Part, made: Table, store: &mut [u32])
+// Follows the records after the first, which stood before a slice of the buffer.
+fn follow_rest(input: i32, buffer: &mut [u8], rest: Span, made: Table, store: &mut [u32])
     requires { ⌜ (rest .start ≤ rest .end) × (rest .end ≤ length (now buffer)) ⌝ }
     requires { ⌜ 0 < rest .start ⌝ }
 {
@@ -166,7 +166,7 @@ pub fn follow(input: i32) {
     let mut store = zero_store();
     print_made();
     print_threads(table, &store[0..words]);
-    let rest = Part {
+    let rest = Span {
         start: length,
         end: filled,
     };

@@ -1,22 +1,15 @@
 -- What the outcome call promises, by the code's tests.
 use mathlib.Core.Path.{_≡_, refl, sym, _∙_}
 use mathlib.Core.Logic.{_≢_}
-use mathlib.Core.Bool.{true}
 use mathlib.Core.List.{[]}
-use Prim.Native.Nat.{ℕ, _≤_, _<_}
+use Prim.Native.Nat.{ℕ}
 use lib.ListN.{take}
-use borrow.Author.Tests.{leb-true}
-use Rattle.model.specs.declared.Table.{Table}
 use Rattle.model.specs.Answers.{SaidOutcome, shown}
-use Rattle.model.specs.Operations.{wordLimit}
 use Rattle.model.specs.Threads.{at}
 use Rattle.model.specs.Store.{wordsAt}
-use Rattle.model.specs.WellFormed.{numbersInRange, wellFormed}
 use Rattle.model.specs.Calls.{step, State}
 use Rattle.model.specs.Refusals.{unless, refusal, outcomeRefusal}
 use Rattle.model.specs.Promise.{view, outcomeAnswer, outcomeWords}
-use Rattle.model.proofs.Laws.{all-of-read}
-use Rattle.model.proofs.Tested.{well-formed-told}
 use Rattle.laws.proofs.Lists.{zero-or-not}
 use Rattle.laws.proofs.Refusals.{outcome-as-step}
 
@@ -47,8 +40,3 @@ module _ (s : State) (x g : ℕ) (e : g ≡ refusal (step x) s) where
     pub words-shown : take (at (s .table) x .outcome .count) (wordsAt (s .store) x) ≡ outcomeWords s x
     unfolding outcomeWords unless view
     words-shown = rw (number-is ∙ z) refl
-
--- a thread of a well-formed table has received at most eight words
-pub count-fits : (t : Table) → wellFormed t ≡ true → (x : ℕ) → x < t .n → at t x .outcome .count ≤ wordLimit
-unfolding numbersInRange
-count-fits t formed x below = leb-true (at t x .outcome .count) wordLimit (all-of-read _ (well-formed-told t formed .numbers x below) .1 .1 .1 .1 .1 .1 .1 .1 .1 .1 .0)

@@ -1,44 +1,22 @@
 -- How long the printed texts are at most, by the widths of what is printed.
-use mathlib.Core.List.{List, [], _∷_}
-use Prim.Native.Nat.{ℕ, zero, suc, _+_, _*_, _/_, _%_, _^_, _≤_, _<_}
+use Prim.Native.Nat.{ℕ, _+_, _*_, _^_, _≤_, _<_}
 use native.Mathlib.Omega.{arith}
 use native.Mathlib.Numerals.{add-one}
-use native.Mathlib.Nat.{div-lt-iff-lt-mul}
-use lib.ListN.{length, take, drop, getD, length-append, length-take}
-use lib.IntN.{ℤ, pos, negsuc, natAbs}
-use lib.Dec.{ltb}
-use borrow.Author.Tests.{lt-ltb}
+use lib.ListN.{length, take, drop, length-append, length-take}
+use lib.IntN.{natAbs}
 use Rattle.model.specs.declared.Outcome.{Outcome}
 use Rattle.model.specs.Lists.{upTo, concat}
 use Rattle.model.specs.Threads.{at}
 use Rattle.model.specs.Store.{wordsAt}
 use Rattle.model.specs.Calls.{State}
 use Rattle.model.specs.Promise.{view}
-use Rattle.model.specs.Bondtrace.{ascii, digit, digits, decimal, signed, Tally, threadLine, finalText, badLine}
-use Rattle.model.proofs.Laws.{by}
-use Rattle.printing.specs.Texts.{spaced, outcomeText, threadsText, longestOutcome, longestWord, longestLine, longestText, longestBadLine}
-use Rattle.printing.proofs.Texts.{concat-snoc, threads-none, line-parts}
-
--- ---- numbers
--- a number below 10 to the k + 1 has at most k + 1 digits
-digits-short : (most k n : ℕ) → n < 10 ^ suc k → length (digits most n) ≤ suc k
-unfolding digits
-digits-short zero k n small = omega arith
-digits-short (suc most) zero n small = let h : n < 10 = omega arith in rw (lt-ltb n 10 h) (omega arith)
-digits-short (suc most) (suc k) n small = by (ltb n 10)
-    (λ e. rw e (omega arith))
-    (λ e. rw e (omega (arith, length-append (digits most (n / 10)) (digit (n % 10) ∷ []), digits-short most k (n / 10) (div-lt-iff-lt-mul (omega arith) .1 (omega arith)))))
-
--- the same of its text
-pub decimal-short : (k n : ℕ) → n < 10 ^ suc k → length (decimal n) ≤ suc k
-unfolding decimal
-decimal-short k n small = digits-short (suc n) k n small
-
--- a code of at most k + 1 digits has one byte more, for its sign
-pub signed-short : (k : ℕ) (code : ℤ) → natAbs code < 10 ^ suc k → length (signed code) ≤ suc (suc k)
-unfolding signed ascii upTo
-signed-short k (pos n) small = omega (arith, decimal-short k n small)
-signed-short k (negsuc n) small = omega (arith, decimal-short k (suc n) small)
+use Rattle.model.specs.Bondtrace.{ascii, Tally, threadLine, finalText, badLine}
+use Rattle.laws.proofs.Joined.{concat-snoc}
+use Rattle.text.specs.Texts.{spaced, longestWord}
+use Rattle.text.proofs.Digits.{decimal-short}
+use Rattle.text.proofs.Signs.{signed-short}
+use Rattle.printing.specs.Texts.{outcomeText, threadsText, longestOutcome, longestLine, longestText, longestBadLine}
+use Rattle.printing.proofs.Texts.{threads-none, line-parts}
 
 -- ---- a thread's line
 -- its number, and its code, source and count
@@ -48,15 +26,7 @@ outcome-short x u number code source count =
     simp length-append
     (omega (arith, decimal-short 2 x (omega arith), signed-short 9 (u .code) (omega arith), decimal-short 2 (u .source) (omega arith), decimal-short 2 (u .count) (omega arith)))
 
--- words, each behind a space
-pub spaced-short : (words : List ℕ) → ((i : ℕ) → getD words i 0 < 2 ^ 32) → length (spaced words) ≤ longestWord * length words
-unfolding spaced concat ascii upTo
-spaced-short [] small = omega arith
-spaced-short (word ∷ words) small =
-    simp length-append
-    (omega (arith, decimal-short 9 word (omega (arith, small 0)), spaced-short words (λ i. small (suc i))))
-
--- they are at most eight
+-- its words are at most eight
 few-words : (s : State) (x : ℕ) → length (view s x .words) ≤ 8
 unfolding view wordsAt
 few-words s x =

@@ -1,5 +1,2 @@
 pub mod Bounds
-pub mod Digits
-pub mod Signs
 pub mod Texts
-pub mod Writing

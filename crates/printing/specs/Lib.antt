@@ -1,2 +1,1 @@
 pub mod Texts
-pub mod Writing

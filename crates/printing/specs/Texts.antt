@@ -1,5 +1,5 @@
 -- Parts of the model's texts, as the code writes them, and the most bytes that each has.
-use mathlib.Core.List.{List, _++_, map}
+use mathlib.Core.List.{List, _++_}
 use Prim.Native.Nat.{ℕ, _+_, _*_}
 use Rattle.model.specs.declared.Outcome.{Outcome}
 use Rattle.model.specs.declared.Table.{Table}
@@ -7,12 +7,9 @@ use Rattle.model.specs.Lists.{upTo, concat}
 use Rattle.model.specs.Calls.{State}
 use Rattle.model.specs.Promise.{state}
 use Rattle.model.specs.Bondtrace.{ascii, decimal, signed, Tally, threadLine}
+use Rattle.text.specs.Texts.{longestWord}
 
 -- ---- parts
--- words, each behind a space
-unfoldable pub spaced : List ℕ → List ℕ
-spaced words = concat (map (λ word. ascii " " ++ decimal word) words)
-
 -- the number of a thread, and its code, source and count
 unfoldable pub outcomeText : ℕ → Outcome → List ℕ
 outcomeText x u = decimal x ++ ascii " " ++ signed (u .code) ++ ascii " " ++ decimal (u .source) ++ ascii " " ++ decimal (u .count)
@@ -20,10 +17,6 @@ outcomeText x u = decimal x ++ ascii " " ++ signed (u .code) ++ ascii " " ++ dec
 -- the lines of the first n threads
 unfoldable pub threadsText : State → ℕ → List ℕ
 threadsText s n = concat (upTo n (threadLine s))
-
--- a line of two numbers, each behind its name
-unfoldable pub numbersLine : List ℕ → ℕ → List ℕ → ℕ → List ℕ
-numbersLine name n next m = name ++ decimal n ++ next ++ decimal m ++ ascii "\n"
 
 -- a tally by its parts, as a contract names them
 abbrev pub tally : Table → List ℕ → ℕ → ℕ → Tally
@@ -33,10 +26,6 @@ tally t store records refused = record { now = state t store; records = records;
 -- number, code, source and count with single spaces: 3 + 1 + 11 + 1 + 3 + 1 + 3
 abbrev pub longestOutcome : ℕ
 longestOutcome = 23
-
--- a word behind a space: 1 + 10
-abbrev pub longestWord : ℕ
-longestWord = 11
 
 -- a thread's line, with eight words and the line's end
 abbrev pub longestLine : ℕ

@@ -10,9 +10,9 @@ use Rattle.model.specs.Lists.{upTo}
 use Rattle.model.specs.Refusals.{unless, reportRefusal}
 use Rattle.model.specs.Promise.{reportAnswer, reportAfter, ReportPromise}
 use Rattle.laws.proofs.Lists.{zero-or-not}
-use Rattle.outcomes.specs.declared.Report.{Report}
-use Rattle.outcomes.specs.Report.{Reported}
-use Rattle.outcomes.proofs.Reports.{outcomeOf, filled, filled-all, read-outcome, report-fits}
+use Rattle.report.specs.declared.Report.{Report}
+use Rattle.report.specs.Report.{Reported}
+use Rattle.report.proofs.Reports.{outcomeOf, filled, filled-all, read-outcome, report-fits}
 
 module _ (t : Table) (records : ℕ) (r : Report) (reported : Reported t records r) where
   -- a refused report fills none of the records

@@ -9,9 +9,9 @@ use lib.ListN.{length, take}
 use Rattle.model.specs.Schedule.{isEmpty}
 use Rattle.model.specs.Bondtrace.{finalText, badLine, bondtrace}
 use Rattle.laws.proofs.Lists.{cond-true, cond-false}
+use Rattle.text.specs.Writing.{Printed}
+use Rattle.text.proofs.Writing.{printed-whole}
 use Rattle.printing.specs.Texts.{tally, longestText, longestBadLine}
-use Rattle.printing.specs.Writing.{Printed}
-use Rattle.printing.proofs.Writing.{printed-whole}
 use Rattle.opening.specs.declared.Playback.{Playback}
 use Rattle.trace.specs.Playback.{tallyOf}
 use Rattle.opening.specs.Opened.{Steady}

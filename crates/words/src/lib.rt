@@ -1,6 +1,6 @@
 // The caller's word store, by slices of it: thread x's eight words start at place 8 × x.
 ghost use mathlib.Core.Path.{_≡_};
-ghost use Prim.Native.Nat.{_+_, _*_, _≤_};
+ghost use Prim.Native.Nat.{_+_, _*_, _≤_, min};
 ghost use lib.ListN.{length, take, replicate};
 ghost use Rattle.model.specs.Store.{wordsAt, zeroed};
 
@@ -28,13 +28,22 @@ pub fn zero_thread(store: &mut [u32], x: u8)
     zero_words(&mut store[start..end]);
 }
 
-// The first count of thread x's eight words, as a slice of the store.
+// The lesser of two numbers.
+pub fn lesser(a: usize, b: usize) -> usize
+    ensures { λ r. ⌜ r ≡ min a b ⌝ }
+{
+    if a < b {
+        return a;
+    }
+    b
+}
+
+// The first count of thread x's eight words, as a slice of the store, as far as the store has them.
 pub fn first_words<'a>(store: &'a [u32], x: u8, count: u8) -> &'a [u32]
-    requires { ⌜ 8 * x + 8 ≤ length (now store) ⌝ }
-    requires { ⌜ count ≤ 8 ⌝ }
     ensures { λ r. ⌜ now r ≡ take count (wordsAt (now (store .entry)) x) ⌝ }
 {
-    let start = WORDS * (x as usize);
-    let end = start + (count as usize);
+    let start = lesser(WORDS * (x as usize), store.len());
+    let most = lesser(count as usize, WORDS);
+    let end = lesser(start + most, store.len());
     &store[start..end]
 }

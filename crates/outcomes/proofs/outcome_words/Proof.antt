@@ -4,8 +4,8 @@ use borrow.Author.Needs.{needs}
 use Rattle.model.specs.Calls.{step}
 use Rattle.model.specs.Refusals.{laterRows}
 use Rattle.model.specs.Threads.{at}
-use Rattle.laws.proofs.Groups.{table-number, later-number, table-formed, table-few, place-below, place-store}
-use Rattle.outcomes.proofs.Shown.{words-refused, words-shown, count-fits}
+use Rattle.laws.proofs.Groups.{table-number, later-number, table-few, place-below}
+use Rattle.outcomes.proofs.Shown.{words-refused, words-shown}
 use Rattle.outcomes.proofs.outcome_words.Statement.{statement}
 use Rattle.outcomes.proofs.outcome_words.Tie as tie
 
@@ -54,12 +54,7 @@ element-copy-out-own c =
     omega (arith, table-few (a .t1) _ (c .before .before .before .table-refusal .ensures) (c .before .before .if1 .left), place-below (a .t1) _ _ _ (c .before .place-refusal .ensures (a .t1) refl) (c .if2 .left))
 
 first-words-requires : tie.Need-first-words-requires
-unfolding at
-first-words-requires c κs =
-    let a = c .before .before .before .before .before .before .before .args in
-    let place-refusal-result = c .before .before .before .place-refusal .ensures in
-    let test2 = c .before .before .if2 .left in
-    (omega (arith, place-below (a .t1) _ _ _ (place-refusal-result (a .t1) refl) test2, place-store (a .t1) _ _ _ (place-refusal-result (a .t1) refl) test2), count-fits (a .t1) (table-formed (a .t1) _ (c .before .before .before .before .before .table-refusal .ensures) (c .before .before .before .before .if1 .left)) _ (place-below (a .t1) _ _ _ (place-refusal-result (a .t1) refl) test2))
+first-words-requires c κs = search needs
 
 returns-3 : tie.Need-returns-3
 unfolding at laterRows

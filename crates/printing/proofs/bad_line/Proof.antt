@@ -1,8 +1,8 @@
 use borrow.Author.Needs.{needs}
 use Rattle.model.specs.Bondtrace.{ascii, badLine}
 use Rattle.model.specs.Lists.{upTo}
-use Rattle.printing.specs.Texts.{numbersLine}
-use Rattle.printing.proofs.Writing.{printed}
+use Rattle.text.specs.Texts.{numbersLine}
+use Rattle.text.proofs.Writing.{printed}
 use Rattle.printing.proofs.Bounds.{bad-short}
 use Rattle.printing.proofs.bad_line.Statement.{statement}
 use Rattle.printing.proofs.bad_line.Tie as tie
@@ -24,7 +24,7 @@ unfolding badLine numbersLine ascii upTo
 returns c =
     let told = c .before .before in
     let entry = told .before .before .before .before .before in
-    printed (told .put-numbers .ensures) (bad-short _ _ (entry .fits .number .fits) (entry .fits .place .fits))
+    printed {text = badLine (entry .args .number) (entry .args .place)} (told .put-numbers .ensures) (bad-short _ _ (entry .fits .number .fits) (entry .fits .place .fits))
 
 pub bad-line-spec : {M : Type 1} → statement M
 bad-line-spec =

@@ -1,9 +1,11 @@
+use denote.Ref.{now}
 use borrow.Author.Needs.{needs}
-use Rattle.model.specs.Bondtrace.{ascii, finalText}
+use Rattle.model.specs.Bondtrace.{ascii}
 use Rattle.model.specs.Lists.{upTo}
-use Rattle.printing.specs.Texts.{threadsText, numbersLine}
-use Rattle.printing.proofs.Writing.{_then_, printed}
+use Rattle.printing.specs.Texts.{tally}
+use Rattle.text.proofs.Writing.{printed}
 use Rattle.printing.proofs.Bounds.{final-short}
+use Rattle.printing.proofs.Texts.{final-written}
 use Rattle.printing.proofs.final_text.Statement.{statement}
 use Rattle.printing.proofs.final_text.Tie as tie
 
@@ -23,12 +25,12 @@ same-length : tie.Need-same-length
 same-length c = search needs
 
 returns : tie.Need-returns
-unfolding finalText threadsText numbersLine ascii upTo
+unfolding ascii upTo
 returns c =
     let listed = c .before .before in
     let told = listed .before .before .before .before in
     let entry = told .before .before .before .before .before .before in
-    printed (told .put-numbers .ensures then listed .put-threads .ensures .0)
+    printed (final-written (tally (entry .args .table) (now (entry .args .store)) (entry .args .records) (entry .args .refused)) (told .put-numbers .ensures) (listed .put-threads .ensures .0))
     (final-short _ (entry .fits .records .fits) (entry .fits .refused .fits) (listed .put-threads .ensures .1))
 
 pub final-text-spec : {M : Type 1} → statement M

@@ -8,7 +8,7 @@ use Rattle.model.specs.Bondtrace.{ascii}
 use Rattle.model.specs.Lists.{upTo}
 use Rattle.printing.specs.Texts.{outcomeText, longestOutcome}
 use Rattle.printing.proofs.Bounds.{outcome-short}
-use Rattle.printing.proofs.Writing.{_then_}
+use Rattle.text.proofs.Writing.{_then_}
 use Rattle.printing.proofs.put_outcome.Statement.{statement}
 use Rattle.printing.proofs.put_outcome.Tie as tie
 

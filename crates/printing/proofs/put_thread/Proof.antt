@@ -2,12 +2,12 @@ use borrow.Author.Needs.{needs}
 use Rattle.model.specs.Promise.{view}
 use Rattle.printing.proofs.Bounds.{line-short}
 use Rattle.printing.proofs.Texts.{line-parts}
-use Rattle.printing.proofs.Writing.{_then_}
+use Rattle.text.proofs.Writing.{_then_}
 use Rattle.printing.proofs.put_thread.Statement.{statement}
 use Rattle.printing.proofs.put_thread.Tie as tie
 
-shown-words-requires : tie.Need-shown-words-requires
-shown-words-requires c κs = search needs
+first-words-requires : tie.Need-first-words-requires
+first-words-requires c κs = search needs
 
 put-outcome-requires : tie.Need-put-outcome-requires
 put-outcome-requires c κs = search needs
@@ -28,7 +28,7 @@ returns c =
     let worded = ended .before .before .before .before in
     let told = worded .before .before .before .before in
     let chosen = told .before .before in
-    let words = rw (chosen .shown-words .ensures) at (worded .put-words .ensures) in (
+    let words = rw (chosen .first-words .ensures) at (worded .put-words .ensures) in (
       λ t e. rw (line-parts, e) (told .put-outcome .ensures .0 then words .0 then ended .put-byte .ensures),
       λ t e. line-short _ _ (rw e (told .put-outcome .ensures .1)) (rw e (words .1)),
     )
@@ -37,7 +37,7 @@ pub put-thread-spec : {M : Type 1} → statement M
 put-thread-spec =
     tie.close
     (tie.spec
-    shown-words-requires
+    first-words-requires
     put-outcome-requires
     put-words-requires
     put-byte-requires

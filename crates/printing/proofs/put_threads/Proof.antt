@@ -7,9 +7,9 @@ use borrow.Author.Needs.{needs}
 use Rattle.model.specs.Threads.{at}
 use Rattle.model.specs.Promise.{state}
 use Rattle.printing.specs.Texts.{threadsText, longestLine}
-use Rattle.printing.specs.Writing.{Written}
+use Rattle.text.specs.Writing.{Written}
 use Rattle.printing.proofs.Bounds.{none-short, one-more-short}
-use Rattle.printing.proofs.Writing.{nothing-written, written-length}
+use Rattle.text.proofs.Writing.{nothing-written, written-length}
 use Rattle.printing.proofs.Texts.{threads-none, one-more-thread, outcome-past}
 use Rattle.printing.proofs.put_threads.Statement.{statement}
 use Rattle.printing.proofs.put_threads.Tie as tie

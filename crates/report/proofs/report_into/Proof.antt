@@ -65,17 +65,17 @@ use Rattle.model.proofs.Outcome as outcome
 use Rattle.model.proofs.Outcome.Laws as outcome-laws
 use Rattle.model.proofs.Table as table
 use Rattle.model.proofs.Table.Laws as table-laws
-use Rattle.outcomes.specs.declared.Report.{Report}
-use Rattle.outcomes.specs.Report.{zeroOutcome, Reported}
-use Rattle.outcomes.proofs.Report as report
-use Rattle.outcomes.proofs.Report.Laws as report-laws
-use Rattle.outcomes.proofs.reported as reported
-use Rattle.outcomes.proofs.reported.Symbol as reported-symbol
-use Rattle.outcomes.proofs.reported.Met as reported-met
-use Rattle.outcomes.proofs.outcome_in as outcome-in
-use Rattle.outcomes.proofs.outcome_in.Symbol as outcome-in-symbol
-use Rattle.outcomes.proofs.outcome_in.Met as outcome-in-met
-use Rattle.outcomes.proofs.Reports.{filled, filled-none, filled-length, filled-more}
+use Rattle.report.specs.declared.Report.{Report}
+use Rattle.report.specs.Report.{zeroOutcome, Reported}
+use Rattle.report.proofs.Report as report
+use Rattle.report.proofs.Report.Laws as report-laws
+use Rattle.report.proofs.reported as reported
+use Rattle.report.proofs.reported.Symbol as reported-symbol
+use Rattle.report.proofs.reported.Met as reported-met
+use Rattle.report.proofs.outcome_in as outcome-in
+use Rattle.report.proofs.outcome_in.Symbol as outcome-in-symbol
+use Rattle.report.proofs.outcome_in.Met as outcome-in-met
+use Rattle.report.proofs.Reports.{filled, filled-none, filled-length, filled-more}
 use Rattle.report.proofs.Laws.{fits-records, outcome-there, promised}
 use Rattle.report.proofs.report_into.Key as key
 use Rattle.report.proofs.report_into as report-into
@@ -129,11 +129,11 @@ module _ {M : Type 1} (𝓤 : URA M) (H : Heap 𝓤) (A : Atoms 𝓤) (W : Given
   abbrev Body : Tables 𝓤 H → Fun 𝓤
   Body 𝓣 = WpFn 𝓤 H (𝓣 .C) (𝓣 .Λ) code.function
 
-  -- the contract of `outcomes::reported`
+  -- the contract of `reported`
   abbrev ToReport : Contract 𝓤
   ToReport = tripleOf 𝓤 H A reported.signature (reported.spec 𝓤 H A at-mem run)
 
-  -- the contract of `outcomes::outcome_in`
+  -- the contract of `outcome_in`
   abbrev ToRead : Contract 𝓤
   ToRead = tripleOf 𝓤 H A outcome-in.signature (outcome-in.spec 𝓤 H A at-mem run)
 
@@ -188,7 +188,7 @@ module _ {M : Type 1} (𝓤 : URA M) (H : Heap 𝓤) (A : Atoms 𝓤) (W : Given
     Opened l Γ = ‵ (row outcome.the-row fullShare l b o) ∷ ‵ (fobor κ q (Held outcome.the-row n b o γ)) ∷ ‵ (fobs γ (codedHoleys outcome.the-row .code (heres outcome.the-row ys)))
         ∷ ‵ (fauth γ (codedHoleys outcome.the-row .code (heres outcome.the-row ys))) ∷ Γ
 
-    -- what `outcomes::reported` is called with
+    -- what `reported` is called with
     abbrev toReport : ToReport .Ghost
     toReport = ((tt, tt, tt, (t, (n, tt)), (tableValue t ∷ [], (vint w64 n ∷ [], tt))), tt)
 
@@ -200,7 +200,7 @@ module _ {M : Type 1} (𝓤 : URA M) (H : Heap 𝓤) (A : Atoms 𝓤) (W : Given
 
     -- ---- from here on the report is made
     module _ (r : Report) (made : Reported t n r) (report-is : Is report.the-row r (reportValue r ∷ [])) where
-      -- what `outcomes::outcome_in` is called with for record i
+      -- what `outcome_in` is called with for record i
       abbrev toRead : ℕ → ToRead .Ghost
       toRead i = ((tt, tt, tt, (r, (i, tt)), (reportValue r ∷ [], (vint w64 i ∷ [], tt))), tt)
 
@@ -399,5 +399,5 @@ report-into-spec 𝓤 H 𝓜 𝓖 𝓡 =
     entered 𝓤 H (tripleOf 𝓤 H (𝓖 .A) report-into.signature (report-into.spec 𝓤 H (𝓖 .A) (𝓜 .mem) (𝓡 .run)))
     (tables 𝓤 H 𝓜 𝓡 code.env .C) (tables 𝓤 H 𝓜 𝓡 code.env .Λ) key.name code.function (code.unfolded 𝓤 H 𝓜 𝓡)
     (meets 𝓤 H (𝓖 .A) (givenOf 𝓤 H 𝓜 𝓖) (𝓜 .mem) (𝓡 .run) (tablesOf 𝓤 H 𝓜 (tables 𝓤 H 𝓜 𝓡 code.env))
-    (cited 𝓤 H (ToReport 𝓤 H (𝓖 .A) (givenOf 𝓤 H 𝓜 𝓖) (𝓜 .mem) (𝓡 .run)) 𝓜 𝓡 code.env reported-symbol.name reported-symbol.routine code.calls-outcomes·reported (reported-met.met 𝓤 H 𝓜 𝓖 𝓡))
-    (cited 𝓤 H (ToRead 𝓤 H (𝓖 .A) (givenOf 𝓤 H 𝓜 𝓖) (𝓜 .mem) (𝓡 .run)) 𝓜 𝓡 code.env outcome-in-symbol.name outcome-in-symbol.routine code.calls-outcomes·outcome-in (outcome-in-met.met 𝓤 H 𝓜 𝓖 𝓡)))
+    (cited 𝓤 H (ToReport 𝓤 H (𝓖 .A) (givenOf 𝓤 H 𝓜 𝓖) (𝓜 .mem) (𝓡 .run)) 𝓜 𝓡 code.env reported-symbol.name reported-symbol.routine code.calls-report·reported (reported-met.met 𝓤 H 𝓜 𝓖 𝓡))
+    (cited 𝓤 H (ToRead 𝓤 H (𝓖 .A) (givenOf 𝓤 H 𝓜 𝓖) (𝓜 .mem) (𝓡 .run)) 𝓜 𝓡 code.env outcome-in-symbol.name outcome-in-symbol.routine code.calls-report·outcome-in (outcome-in-met.met 𝓤 H 𝓜 𝓖 𝓡)))

@@ -1,13 +1,22 @@
 use borrow.Author.Needs.{needs}
-use Rattle.words.proofs.Laws.{first-of-words}
+use Rattle.words.proofs.Laws.{first-there}
 use Rattle.words.proofs.first_words.Statement.{statement}
 use Rattle.words.proofs.first_words.Tie as tie
 
-mul-start : tie.Need-mul-start
-mul-start c = search needs
+mul-lesser : tie.Need-mul-lesser
+mul-lesser c = search needs
 
-add-end : tie.Need-add-end
-add-end c = search needs
+lesser-requires : tie.Need-lesser-requires
+lesser-requires c κs = search needs
+
+lesser-requires-2 : tie.Need-lesser-requires-2
+lesser-requires-2 c κs = search needs
+
+add-lesser : tie.Need-add-lesser
+add-lesser c = search needs
+
+lesser-requires-3 : tie.Need-lesser-requires-3
+lesser-requires-3 c κs = search needs
 
 mul-result : tie.Need-mul-result
 mul-result c = search needs
@@ -22,9 +31,19 @@ part-result-end : tie.Need-part-result-end
 part-result-end c = search needs
 
 returns : tie.Need-returns
-returns c = first-of-words _ _ _ (c .before .pre .1)
+returns c = first-there _ _ _ (c .before .before .before .lesser .ensures) (c .before .before .lesser2 .ensures) (c .before .lesser3 .ensures)
 
 pub first-words-spec : {M : Type 1} → statement M
 first-words-spec =
     tie.close
-    (tie.spec mul-start add-end mul-result sub-result part-result-start part-result-end returns)
+    (tie.spec
+    mul-lesser
+    lesser-requires
+    lesser-requires-2
+    add-lesser
+    lesser-requires-3
+    mul-result
+    sub-result
+    part-result-start
+    part-result-end
+    returns)

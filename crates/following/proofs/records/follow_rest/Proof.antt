@@ -7,7 +7,7 @@ use borrow.Author.Needs.{needs}
 use Rattle.following.proofs.records.follow_rest.Statement.{statement}
 use Rattle.following.proofs.records.follow_rest.Tie as tie
 
--- the part left lies in the buffer, no length has changed, and there are no more records than bytes, which a machine's number counts
+-- the slice left lies in the buffer, no length has changed, and there are no more records than bytes, which a machine's number counts
 abbrev Inv-loop : tie.InvT-loop
 Inv-loop input buffer₀ store₀ table₀ left₀ place₀ byte₀ buffer store table left place byte =
     (left .start ≤ left .end) × (left .end ≤ length buffer) × (length buffer ≡ length buffer₀) × (length store ≡ length store₀) × (place ≤ byte) × (byte ≤ 18446744073709551615)

@@ -1,5 +1,6 @@
 use borrow.Author.Needs.{needs}
-use Rattle.following.proofs.Accepted.{record-whole, record-most}
+use Rattle.laws.proofs.Schedule.{record-longest}
+use Rattle.following.proofs.Accepted.{record-whole}
 use Rattle.following.proofs.records.take.Statement.{statement}
 use Rattle.following.proofs.records.take.Tie as tie
 
@@ -16,7 +17,7 @@ record-length-requires : tie.Need-record-length-requires
 record-length-requires c κs = search needs
 
 returns-2 : tie.Need-returns-2
-returns-2 c = rw (c .record-length .ensures) (record-whole _ _ _ _ (c .before .before .before .read .ensures) (c .before .match .keys2), record-most _)
+returns-2 c = rw (c .record-length .ensures) (record-whole _ _ _ _ (c .before .before .before .read .ensures) (c .before .match .keys2), record-longest _)
 
 pub take-spec : {M : Type 1} → statement M
 take-spec =
