@@ -17,8 +17,8 @@ use Rattle.pieces.proofs.WholeText.{whole-text, table-stays}
 use Rattle.opening.specs.Opened.{openRefusal}
 use Rattle.opening.proofs.Opening.{not-opened, opens}
 use Rattle.printing.specs.Texts.{longestBadLine}
-use Rattle.printing.specs.Writing.{Printed}
-use Rattle.printing.proofs.Writing.{printed-whole}
+use Rattle.text.specs.Writing.{Printed}
+use Rattle.text.proofs.Writing.{printed-whole}
 use Rattle.running.specs.Input.{Settled}
 
 -- what is returned where there is a refusal
