@@ -130,10 +130,6 @@ module _ {buffer words : List ℕ} {size : ℕ} {t : Playback} {start end refill
     abbrev took : ℕ
     took = to .place - t .place
 
-    -- not more than there are
-    pub next-within : start + took ≤ end
-    next-within = omega (arith, F .ordered, piece-there, carries .within, carries .onward)
-
     -- the words are still the first of an array of as many as before
     words-kept : length store ≡ size
     words-kept = carries .words ∙ ap (λ (k : ℕ). 8 * k) (carries .size) ∙ sym (F .sized)
