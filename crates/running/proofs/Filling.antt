@@ -11,8 +11,7 @@ use Rattle.model.specs.RecordBytes.{threadByte, lawful}
 use Rattle.model.specs.Decoding.{front}
 use Rattle.model.proofs.Laws.{by}
 use Rattle.laws.proofs.Schedule.{front-thread}
-use Rattle.model.proofs.Numbers.{size-read}
-use Rattle.model.proofs.Tested.{well-formed-told}
+use Rattle.model.proofs.Tested.{formed-few}
 use Rattle.refill.specs.Refilled.{Refilled}
 use Rattle.opening.specs.declared.Playback.{Playback}
 use Rattle.opening.specs.Opened.{openRefusal, openSize, opened, Steady}
@@ -33,7 +32,7 @@ pub record Along (t : Playback) (store bytes : List ℕ) : Type 0 where
 
 -- a playback that can go on has at most 32 threads
 pub steady-few : (t : Playback) → Steady t → t .table .n ≤ 32
-steady-few t steady = size-read (t .table .n) (well-formed-told (t .table) (steady .checked .formed) .size) .1
+steady-few t steady = formed-few (t .table) (steady .checked .formed)
 
 -- the bytes of a buffer from start to end
 abbrev pub between : ℕ → ℕ → List ℕ → List ℕ

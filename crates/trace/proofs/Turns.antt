@@ -16,8 +16,7 @@ use Rattle.model.specs.Promise.{state, next, Promise}
 use Rattle.model.specs.RecordBytes.{kindByte, recordLength, lawful}
 use Rattle.model.specs.Decoding.{front, recordOf}
 use Rattle.model.specs.Bondtrace.{callOf, Tally, recordPlayed}
-use Rattle.model.proofs.Numbers.{size-read}
-use Rattle.model.proofs.Tested.{well-formed-told}
+use Rattle.model.proofs.Tested.{formed-few}
 use Rattle.laws.proofs.Calls.{refused-next}
 use Rattle.laws.proofs.Schedule.{record-head, lawful-long, lawful-head-long}
 use Rattle.pieces.specs.Playing.{Progress, playedOn, wholeRecord}
@@ -106,7 +105,7 @@ goes-first from store bytes ready = record {
 module _ {from : Playback} {store₀ bytes : List ℕ} {n : ℕ} {store : List ℕ} {now : Table} {records refused at : ℕ} (G : Goes from store₀ bytes n store now records refused at) where
   -- there are at most 32 threads
   pub few-threads : n ≤ 32
-  few-threads = omega (arith, G .size, size-read (now .n) (well-formed-told now (G .runnable .checked .formed) .size) .1)
+  few-threads = omega (arith, G .size, formed-few now (G .runnable .checked .formed))
 
   -- ---- a turn, with a lawful record at the front
   module _ (good : lawful false (front (from-place bytes at)) ≡ true) where
