@@ -9,7 +9,8 @@ use lib.Dec.{eqb, ltb}
 use borrow.Author.Tests.{lt-ltb, le-ltb, eq-eqb, ne-eqb}
 use Rattle.model.specs.Lists.{implies, allOf, allBelow}
 use Rattle.model.specs.RecordBytes.{wordAt}
-use Rattle.model.proofs.Laws.{by, same?, all-below-read, all-below-made}
+use Rattle.model.proofs.Laws.{same?, all-below-made}
+use Rattle.laws.proofs.Below.{all-below-fails}
 use Rattle.laws.proofs.Tests.{all-joined}
 
 -- ---- the fields that the parts do not use
@@ -59,12 +60,7 @@ module _ (bytes : List ℕ) (count : ℕ) where
 
     -- it fails at another
     pub passed-not : i < 8 → wordAt bytes i ≢ 0 → false ≡ allBelow 8 (wordLawful bytes count)
-    passed-not l d = by (allBelow 8 (wordLawful bytes count))
-        (λ e. sym fails ∙ all-below-read 8 (wordLawful bytes count) e i l ∙ sym e)
-        (λ e. sym e)
-      where
-        fails : wordLawful bytes count i ≡ false
-        fails = rw (le-ltb i count (p .counted), ne-eqb (wordAt bytes i) 0 d) refl
+    passed-not l d = all-below-fails 8 (wordLawful bytes count) i l (rw (le-ltb i count (p .counted), ne-eqb (wordAt bytes i) 0 d) refl)
 
     -- it holds where none is left
     pub passed-all : 8 ≤ i → true ≡ allBelow 8 (wordLawful bytes count)

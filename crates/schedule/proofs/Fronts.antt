@@ -15,23 +15,12 @@ use Rattle.model.specs.Decoding.{operationOf, front}
 use Rattle.model.proofs.Laws.{by, and-left}
 -- those who cite the laws below find these beside them
 pub use Rattle.laws.proofs.Schedule.{record-head, record-begin, front-kind, front-thread, lawful-long, lawful-head-long}
+use Rattle.laws.proofs.Below.{up-to-alike, all-below-alike}
 use Rattle.laws.proofs.Schedule.{record-other, front-byte, head-byte}
 use Rattle.schedule.specs.Heads.{lawfulHead}
 use Rattle.schedule.proofs.Begins.{wordLawful}
 
 -- ---- what is read
--- functions with the same values below n have the same list there
-up-to-alike : (n : ℕ) (f g : ℕ → ℕ) → ((i : ℕ) → i < n → f i ≡ g i) → upTo n f ≡ upTo n g
-unfolding upTo
-up-to-alike zero f g h = refl
-up-to-alike (suc k) f g h = rw (up-to-alike k f g (λ i l. h i (omega arith)), h k (omega arith)) refl
-
--- and tests with the same values hold of all there together
-all-below-alike : (n : ℕ) (f g : ℕ → Bool) → ((i : ℕ) → i < n → f i ≡ g i) → allBelow n f ≡ allBelow n g
-unfolding allBelow
-all-below-alike zero f g h = refl
-all-below-alike (suc k) f g h = rw (all-below-alike k f g (λ i l. h i (omega arith)), h k (omega arith)) refl
-
 -- bytes with the same first 42
 abbrev Alike : List ℕ → List ℕ → Type 0
 Alike p q = (i : ℕ) → i < 42 → byte p i ≡ byte q i
