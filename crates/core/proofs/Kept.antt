@@ -2,7 +2,7 @@
 use mathlib.Core.Path.{_≡_, sym, ap, _∙_, subst}
 use mathlib.Core.Bool.{true, not}
 use mathlib.Core.List.{[]}
-use Prim.Native.Nat.{ℕ, _*_, _≤_, _<_}
+use Prim.Native.Nat.{ℕ, _*_, _<_}
 use lib.ListN.{length}
 use borrow.Author.Tests.{lt-leb}
 use Rattle.model.specs.declared.Operation.{Operation}
@@ -12,13 +12,13 @@ use Rattle.model.specs.Locks.{lockFree}
 use Rattle.model.specs.WellFormed.{WellFormed, wellFormed}
 use Rattle.model.specs.Calls.{Call, begin, step, cancel, tick, State}
 use Rattle.model.specs.Refusals.{firstRefusal, unless, noThread, lockOwned, placeRows, beginRows, laterRows, refusal, makeRefusal}
-use Rattle.model.specs.Promise.{next, state, Promise, madeTable}
+use Rattle.model.specs.Promise.{next, Promise, madeTable}
 use Rattle.model.proofs.Laws.{_and_}
-use Rattle.model.proofs.Numbers.{size-read}
 use Rattle.model.proofs.Tested.{well-formed-tested}
 use Rattle.laws.proofs.Rows.{first-none, rows-passed}
 use Rattle.laws.proofs.Groups.{later-refusal, place-passed}
-use Rattle.invariant.proofs.New.{new-size, new-shaped, made-well-formed}
+use Rattle.laws.proofs.Refusals.{making-accepted}
+use Rattle.invariant.proofs.New.{new-shaped, made-well-formed}
 use Rattle.invariant.proofs.Frames.{next-size, next-store-length}
 use Rattle.invariant.proofs.Keeps.{keeps-shaped, keeps-test}
 use Rattle.core.specs.Runnable.{Checked, Runnable}
@@ -30,13 +30,9 @@ module _ (n : ℕ) (made : makeRefusal n ≡ 0) where
   unfolding madeTable unless
   new-formed = rw made at (made-well-formed n made)
 
-  -- it has 1 to 32 threads
-  pub new-sized : (1 ≤ n) × (n ≤ 32)
-  new-sized = size-read n (rw (new-size n) at (new-formed .size))
-
   -- so it counts as checked
   pub new-checked : Checked (newTable n)
-  new-checked = record { formed = well-formed-tested (newTable n) new-formed; shaped = new-shaped n (new-sized .1) }
+  new-checked = record { formed = well-formed-tested (newTable n) new-formed; shaped = new-shaped n (making-accepted n made .1) }
 
 -- every call, refused or not, leaves a checked table where it found one
 pub keeps-checked : (c : Call) (s : State) → Checked (s .table) → Checked (next c s .table)

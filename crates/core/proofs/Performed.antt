@@ -28,8 +28,7 @@ use Rattle.model.specs.Refusals.{rowsOf, refusal, tableRows, placeRows, beginRo
 use Rattle.model.specs.Promise.{state, Promise}
 use Rattle.model.proofs.Laws.{by, and-right}
 use Rattle.model.proofs.Table.{the-row}
-use Rattle.model.proofs.Numbers.{size-read}
-use Rattle.model.proofs.Tested.{well-formed-told}
+use Rattle.model.proofs.Tested.{formed-few}
 use Rattle.model.proofs.Free.{target-beyond}
 use Rattle.laws.proofs.Refusals.{AcceptedBegin, accepted-table, accepted-begin, accepted-cancel}
 use Rattle.laws.proofs.Calls.{accepted-next, accepted-answer, begins-to-send, begins-to-receive, cancel-marks, cancel-marks-reply, cancel-nothing, cancel-nothing-reply}
@@ -49,7 +48,7 @@ module _ (c : Call) (s : State) where
   module _ (e : refusal c s ≡ 0) where
     -- a call that is not refused finds at most 32 threads
     pub accepted-few : s .table .n ≤ 32
-    accepted-few = size-read (s .table .n) (well-formed-told (s .table) (accepted-table c s e) .size) .1
+    accepted-few = formed-few (s .table) (accepted-table c s e)
 
     -- its table's arrays are whole, as the table's type tells
     pub accepted-shaped : (vs : List Val) → shadow (the-row .own (s .table) vs) → Shaped (s .table)

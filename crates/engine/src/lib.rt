@@ -7,8 +7,6 @@ ghost use Rattle.model.specs.Calls.{Call};
 ghost use Rattle.model.specs.Promise.{state, Promise, MakePromise};
 use model::Answer;
 use model::Operation;
-use model::Outcome;
-use model::OutcomeAnswer;
 use model::Returned;
 use model::Table;
 

@@ -9,7 +9,6 @@ use Rattle.model.specs.declared.Operation.{Operation}
 use Rattle.model.specs.declared.Thread.{Thread}
 use Rattle.model.specs.declared.Table.{Table}
 use Rattle.model.specs.Lists.{update}
-use Rattle.model.specs.Codes.{nobody}
 use Rattle.model.specs.Operations.{targetBeyond}
 use Rattle.model.specs.Threads.{at, edit}
 use Rattle.model.specs.Queues.{joined}
@@ -20,7 +19,6 @@ use Rattle.model.specs.Refusals.{refusal}
 use Rattle.model.specs.Promise.{next}
 use Rattle.model.proofs.Tested.{well-formed-tested, well-formed-told}
 use Rattle.laws.proofs.Tables.{edit-at, edit-length, edit-two-at, below-length, act-length}
-use Rattle.laws.proofs.Decided.{lock-free-read}
 use Rattle.laws.proofs.Refusals.{AcceptedBegin, accepted-table, accepted-begin, accepted-step, accepted-cancel}
 use Rattle.laws.proofs.Calls.{accepted?, accepted-next, refused-next, begin-cases, cancel-cases}
 use Rattle.formed.proofs.Formed.{Formed, formed-grouped, formed-ungrouped}
@@ -50,14 +48,11 @@ module _ (t : Table) (whole : length (t .threads) ≡ 32) (F : Formed (t .n) (at
 -- an accepted begin
 begin-kept : (x : ℕ) (o : Operation) (s : State) → AcceptedBegin s x o → length (s .table .threads) ≡ 32 → Formed (s .table .n) (at (s .table)) → Kept (s .table .n) (beginTable x o (s .table))
 begin-kept x o s b whole F = let t = s .table in begin-cases x o t (Kept (t .n))
-    (λ far. edited t whole F x _ (b .below) (begin-beyond-keeps F x (b .below) unowned (b .inIdle)))
+    (λ far. edited t whole F x _ (b .below) (begin-beyond-keeps F x (b .below) (b .unowned) (b .inIdle)))
     (λ near sends below. edited-two t whole F x (o .send .target) _ (joined x) (b .below) below (λ i. b .otherTarget sends (sym i))
-    (begin-send-keeps F x (b .below) unowned (b .inIdle) o (canBegin near) sends below))
-    (λ near alone. edited t whole F x _ (b .below) (begin-receive-keeps F x (b .below) unowned (b .inIdle) o (canBegin near) alone (rw alone at (b .part))))
+    (begin-send-keeps F x (b .below) (b .unowned) (b .inIdle) o (canBegin near) sends below))
+    (λ near alone. edited t whole F x _ (b .below) (begin-receive-keeps F x (b .below) (b .unowned) (b .inIdle) o (canBegin near) alone (rw alone at (b .part))))
   where
-    unowned : at (s .table) x .owner ≡ nobody
-    unowned = lock-free-read (at (s .table) x) (b .free)
-
     canBegin : targetBeyond (s .table .n) o ≡ false → CanBegin (s .table .n) x o
     canBegin near = record { sends = b .sends near; receives = b .receives; target = b .otherTarget; partner = b .otherPartner }
 
@@ -70,7 +65,7 @@ accepted-keeps (step x) s e whole F = record {
   formed = step-keeps (s .table) F x (accepted-step x s e .below) whole;
 }
 accepted-keeps (cancel x) s e whole F = let a = accepted-cancel x s e in cancel-cases x (s .table) (Kept (s .table .n))
-    (λ runs. edited (s .table) whole F x _ (a .below) (cancel-keeps F x (a .below) (lock-free-read _ (a .free)) runs))
+    (λ runs. edited (s .table) whole F x _ (a .below) (cancel-keeps F x (a .below) (a .unowned) runs))
     (λ over. record { whole = whole; formed = F })
 accepted-keeps tick s e whole F = record {
   whole = below-length ticked (s .table) (s .table .n) ∙ whole;

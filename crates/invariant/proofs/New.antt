@@ -1,12 +1,12 @@
 -- A new table is well-formed.
 use mathlib.Core.Path.{_≡_, refl, sym, ap, _∙_}
 use mathlib.Core.Bool.{Bool, true, false}
-use mathlib.Core.List.{[], _∷_}
+use mathlib.Core.List.{[]}
 use Prim.Native.Nat.{ℕ, suc, _≤_, _<_}
 use native.Mathlib.Omega.{arith}
 use lib.ListN.{length-replicate, getD-replicate}
 use lib.Dec.{ltb}
-use borrow.Author.Tests.{ltb-true, not-false}
+use borrow.Author.Tests.{ltb-true}
 use Rattle.model.specs.declared.Thread.{Thread}
 use Rattle.model.specs.Lists.{implies, allOf, occurs}
 use Rattle.model.specs.Codes.{nobody}
@@ -15,11 +15,11 @@ use Rattle.model.specs.Threads.{newThread, newTable, zeroThread, at}
 use Rattle.model.specs.Queues.{senders}
 use Rattle.model.specs.Locks.{lockHeld}
 use Rattle.model.specs.WellFormed.{within, sizeInRange, inPhase, isCode, nobodyOrBelow, numbersInRange, ipcWithRunning, bareUnlessDone, notWithItself, sendAndMarkWithIpc, pollWithSend, receivingWithPart, ipcWithoutSend, idleWithoutFlags, releaseHasTarget, receiversSendClear, sendersSendSet, copiesToReady, sendsTo, ownerOf, chain, Shaped, Each, WellFormed}
-use Rattle.model.specs.Refusals.{unless, badSize, makeRefusal}
+use Rattle.model.specs.Refusals.{unless, makeRefusal}
 use Rattle.model.specs.Promise.{madeTable}
 use Rattle.model.proofs.Laws.{by}
-use Rattle.model.proofs.Numbers.{size-read, size-made}
-use Rattle.laws.proofs.Rows.{none-holds}
+use Rattle.model.proofs.Numbers.{size-made}
+use Rattle.laws.proofs.Refusals.{making-accepted}
 
 -- a new table of n threads has n threads
 pub new-size : (n : ℕ) → newTable n .n ≡ n
@@ -98,12 +98,7 @@ new-well-formed n some few = let size = new-size n in record {
 }
 
 -- ---- making a table
--- a making that is not refused has tested the number of threads
-made-size : (n : ℕ) → makeRefusal n ≡ 0 → sizeInRange n ≡ true
-unfolding makeRefusal badSize
-made-size n e = not-false (sizeInRange n) (none-holds (badSize n ∷ []) refl e .0)
-
 -- a table that is made is well-formed
 pub made-well-formed : (n : ℕ) → makeRefusal n ≡ 0 → WellFormed (madeTable n)
 unfolding madeTable unless
-made-well-formed n e = let (some, few) = size-read n (made-size n e) in rw e (new-well-formed n some few)
+made-well-formed n e = let (some, few) = making-accepted n e in rw e (new-well-formed n some few)

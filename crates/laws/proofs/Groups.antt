@@ -13,8 +13,7 @@ use Rattle.model.specs.WellFormed.{wellFormed}
 use Rattle.model.specs.Calls.{Call, begin, State}
 use Rattle.model.specs.Refusals.{firstRefusal, badSize, notWellFormed, noThread, badLength, tableRows, placeRows, beginRows, laterRows, rowsOf, refusal, reportRefusal}
 use Rattle.model.proofs.Laws.{_and_}
-use Rattle.model.proofs.Numbers.{size-read}
-use Rattle.model.proofs.Tested.{well-formed-told}
+use Rattle.model.proofs.Tested.{well-formed-told, formed-few}
 use Rattle.laws.proofs.Rows.{NoneHolds, numbered, none-holds, rows-passed, group-refuses, group-passes}
 
 -- ---- the rows on the table
@@ -31,7 +30,7 @@ module _ (t : Table) where
 
   -- and has at most 32 threads
   pub table-few : (f : ℕ) → f ≡ firstRefusal (tableRows t) → f ≡ 0 → t .n ≤ 32
-  table-few f rows z = size-read (t .n) (well-formed-told t (table-formed f rows z) .size) .1
+  table-few f rows z = formed-few t (table-formed f rows z)
 
   -- on a well-formed table none holds
   formed-rows : wellFormed t ≡ true → NoneHolds (tableRows t)

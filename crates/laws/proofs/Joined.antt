@@ -1,9 +1,10 @@
 -- Laws of lists put together from lists, and of the first numbers of a list. None is about messages.
 use mathlib.Core.Path.{_≡_, refl, sym, ap, _∙_}
 use mathlib.Core.List.{List, [], _∷_, _++_, append-assoc, append-nil}
-use Prim.Native.Nat.{ℕ, zero, suc, _<_}
+use Prim.Native.Nat.{ℕ, zero, suc, _-_, _<_}
 use native.Mathlib.Omega.{arith}
 use lib.ListN.{length, getD, take, drop}
+use lib.Seq.{take-all}
 use Rattle.model.specs.Lists.{concat}
 
 module _ {ℓ} {A : Type ℓ} where
@@ -23,6 +24,13 @@ module _ {ℓ} {A : Type ℓ} where
   take-and-rest zero l = refl
   take-and-rest (suc n) [] = refl
   take-and-rest (suc n) (a ∷ l) = ap (λ q. a ∷ q) (take-and-rest n l)
+
+  -- what is left of the first m numbers of a list past the first k of them
+  pub drop-of-take : (k m : ℕ) (l : List A) → drop k (take m l) ≡ take (m - k) (drop k l)
+  drop-of-take zero m l = let all : m ≡ m - 0 = omega arith in ap (λ (n : ℕ). take n l) all
+  drop-of-take (suc k) zero l = let none : zero ≡ zero - suc k = omega arith in ap (λ (n : ℕ). take n (drop (suc k) l)) none
+  drop-of-take (suc k) (suc m) [] = sym (take-all (suc m - suc k) [] (omega arith))
+  drop-of-take (suc k) (suc m) (a ∷ l) = let same : m - k ≡ suc m - suc k = omega arith in drop-of-take k m l ∙ ap (λ (n : ℕ). take n (drop k l)) same
 
 -- the first numbers of a list are below a bound that all are below
 pub take-under : (bound n : ℕ) (l : List ℕ) → ((i : ℕ) → getD l i 0 < bound) → (i : ℕ) → getD (take n l) i 0 < bound

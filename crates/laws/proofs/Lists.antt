@@ -4,13 +4,12 @@ use mathlib.Core.Logic.{_≢_}
 use mathlib.Core.Bool.{Bool, true, false, cond, _&&_, _||_}
 use mathlib.Core.Option.{none, some}
 use mathlib.Core.List.{List, [], _∷_}
-use Prim.Native.Nat.{ℕ, zero, suc, _+_, _-_, _≤_, _<_}
+use Prim.Native.Nat.{ℕ, zero, suc, _+_, _-_, _≤_}
 use native.Mathlib.Omega.{arith}
-use lib.ListN.{length, getD, getElem?, take}
-use lib.Seq.{take-suc}
+use lib.ListN.{length, getElem?}
 use lib.Dec.{eqb}
 use borrow.Author.Tests.{eqb-true, eq-eqb, ne-eqb}
-use Rattle.model.specs.Lists.{bit, occurs, without, placeWhere, upTo, update}
+use Rattle.model.specs.Lists.{bit, occurs, without, placeWhere, update}
 use Rattle.model.proofs.Laws.{by, same?}
 
 -- ---- a function with another value at one place
@@ -108,10 +107,3 @@ none-found f (a ∷ q) s e h =
     by (eqb a s)
     (λ i. let j : a ≡ s = eqb-true a s i in cc)
     (λ i. let l : 1 ≤ bit false + occurs s q = rw i at h in none-found f q s k (omega arith)))
-
--- ---- the first numbers of a list
--- a list that is f at each of its first k places starts with f's first k values
-pub take-up-to {ℓ} : {A : Type ℓ} (l : List A) (d : A) (k : ℕ) (f : ℕ → A) → k ≤ length l → ((j : ℕ) → j < k → getD l j d ≡ f j) → take k l ≡ upTo k f
-unfolding upTo
-take-up-to l d zero f long h = refl
-take-up-to l d (suc k) f long h = rw (take-suc l k d (omega arith), take-up-to l d k f (omega arith) (λ j i. h j (omega arith)), h k (omega arith)) refl

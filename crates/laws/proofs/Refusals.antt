@@ -8,19 +8,21 @@ use lib.ListN.{length}
 use lib.Dec.{eqb, leb, ltb}
 use borrow.Author.Tests.{ltb-false, leb-false, le-leb, lt-ltb, eqb-true, eqb-false, not-false}
 use Rattle.model.specs.declared.Receive.{Receive}
-use Rattle.model.specs.declared.Receive.the-variants.{Absent, Open, Closed}
 use Rattle.model.specs.declared.Operation.{Operation}
+use Rattle.model.specs.Codes.{nobody}
 use Rattle.model.specs.Operations.{wordLimit, hasReceive, receiveTime, closedOn, targetBeyond, closedBeyond}
 use Rattle.model.specs.Times.{isTimeCode}
 use Rattle.model.specs.Phases.{idle, phaseOf}
 use Rattle.model.specs.Threads.{at}
 use Rattle.model.specs.Locks.{lockFree}
-use Rattle.model.specs.WellFormed.{inPhase, sendInRange, receiveInRange, wellFormed}
+use Rattle.model.specs.WellFormed.{sizeInRange, inPhase, sendInRange, receiveInRange, wellFormed}
 use Rattle.model.specs.Calls.{Call, begin, step, cancel, tick, State}
-use Rattle.model.specs.Refusals.{badSize, notWellFormed, noThread, badLength, lockOwned, notIdle, neitherPart, withItself, noPartner, tooManyWords, badTime, rowsOf, refusal, outcomeRefusal, tableRows, placeRows, beginRows, laterRows}
+use Rattle.model.specs.Refusals.{firstRefusal, badSize, notWellFormed, noThread, badLength, lockOwned, notIdle, neitherPart, withItself, noPartner, tooManyWords, badTime, rowsOf, refusal, makeRefusal, outcomeRefusal, tableRows, placeRows, beginRows, laterRows}
 use Rattle.model.proofs.Laws.{implies-made, _and_, all-of-made}
+use Rattle.model.proofs.Numbers.{size-read, size-made}
 use Rattle.laws.proofs.Rows.{numbered, NoneHolds, none-holds}
 use Rattle.laws.proofs.Phases.{in-idle}
+use Rattle.laws.proofs.Decided.{lock-free-read}
 use Rattle.laws.proofs.Lists.{or-left, or-right, second-fails}
 
 -- the rows of every call have numbers
@@ -45,13 +47,13 @@ pub record AcceptedStep (s : State) (x : ℕ) : Type 0 where
 -- cancel
 pub record AcceptedCancel (s : State) (x : ℕ) : Type 0 where
   pub below : x < s .table .n
-  pub free : lockFree (at (s .table) x) ≡ true
+  pub unowned : at (s .table) x .owner ≡ nobody
 
 -- begin
 pub record AcceptedBegin (s : State) (x : ℕ) (o : Operation) : Type 0 where
   pub below : x < s .table .n
   pub store : length (s .store) ≡ 8 * s .table .n
-  pub free : lockFree (at (s .table) x) ≡ true
+  pub unowned : at (s .table) x .owner ≡ nobody
   pub inIdle : phaseOf (at (s .table) x .phase) ≡ idle
   pub part : (o .send .present || hasReceive (o .receive)) ≡ true
   pub otherTarget : o .send .present ≡ true → o .send .target ≢ x
@@ -83,7 +85,7 @@ outcome-as-step s x = refl
 pub accepted-cancel : (x : ℕ) (s : State) → refusal (cancel x) s ≡ 0 → AcceptedCancel s x
 unfolding rowsOf tableRows laterRows noThread lockOwned
 accepted-cancel x s e = let (size, (formed, (below, (free, end)))) = accepted-rows (cancel x) s e in
-    record { below = leb-false (s .table .n) x below; free = not-false (lockFree (at (s .table) x)) free }
+    record { below = leb-false (s .table .n) x below; unowned = lock-free-read (at (s .table) x) (not-false (lockFree (at (s .table) x)) free) }
 
 -- a send part whose target is in the table has its numbers in range
 send-in-range : (n : ℕ) (o : Operation) → (o .send .present ≡ true → o .send .count ≤ wordLimit) → (o .send .present ≡ true → isTimeCode (o .send .time) ≡ true)
@@ -112,7 +114,7 @@ accepted-begin x o s e =
     record {
       below = leb-false (s .table .n) x below;
       store = eqb-true (length (s .store)) (8 * s .table .n) (not-false (eqb (length (s .store)) (8 * s .table .n)) store);
-      free = not-false (lockFree (at (s .table) x)) free;
+      unowned = lock-free-read (at (s .table) x) (not-false (lockFree (at (s .table) x)) free);
       inIdle = in-idle (at (s .table) x) (not-false (inPhase (idle ∷ []) (at (s .table) x)) inIdle);
       part = not-false (o .send .present || hasReceive (o .receive)) part;
       otherTarget = λ i. eqb-false (o .send .target) x (second-fails (o .send .present) (eqb (o .send .target) x) (or-left toItself (closedOn (o .receive) x) itself) i);
@@ -120,3 +122,14 @@ accepted-begin x o s e =
       sends = send-in-range (s .table .n) o count sendTime;
       receives = receive-in-range (s .table .n) (o .receive) (or-right badSend badWait time) partner;
     }
+
+-- ---- making a table
+-- a making that is not refused is of 1 to 32 threads
+pub making-accepted : (n : ℕ) → makeRefusal n ≡ 0 → (1 ≤ n) × (n ≤ 32)
+unfolding makeRefusal badSize
+making-accepted n e = size-read n (not-false (sizeInRange n) (none-holds (badSize n ∷ []) refl e .0))
+
+-- a making of 1 to 32 threads is not refused
+pub accepted-making : (n : ℕ) → 1 ≤ n → n ≤ 32 → makeRefusal n ≡ 0
+unfolding makeRefusal firstRefusal badSize
+accepted-making n some few = rw (size-made n some few) refl

@@ -1,6 +1,6 @@
 -- What the search in a thread's queue finds.
 use mathlib.Core.Path.{_≡_}
-use mathlib.Core.Bool.{true, false}
+use mathlib.Core.Bool.{false}
 use mathlib.Core.Option.{none, some}
 use Prim.Native.Nat.{ℕ, _≤_}
 use Rattle.model.specs.declared.Thread.{Thread}
@@ -10,12 +10,7 @@ use Rattle.model.specs.Queues.{senders, searchPlace, findSender}
 use Rattle.laws.proofs.Lists.{found, none-found}
 
 module _ (h : Thread) (s : ℕ) where
-  -- the sender that is found is acceptable
-  pub found-acceptable : findSender h ≡ some s → accepts (h .op .receive) s ≡ true
-  unfolding findSender searchPlace
-  found-acceptable e = found (accepts (h .op .receive)) (senders h) s e .0
-
-  -- and stands in the queue
+  -- the sender that is found stands in the queue
   pub found-queued : findSender h ≡ some s → 1 ≤ occurs s (senders h)
   unfolding findSender searchPlace
   found-queued e = found (accepts (h .op .receive)) (senders h) s e .1

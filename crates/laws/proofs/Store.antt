@@ -13,7 +13,7 @@ use Rattle.model.specs.declared.Thread.{Thread}
 use Rattle.model.specs.Operations.{wordLimit, message}
 use Rattle.model.specs.Store.{wordsAt, zeroed, wordCopied}
 use Rattle.model.specs.Step.{Action, stay, takeLock, abortSend, startCopy, toRelease, copyWord, finishCall, finishSend, freeTarget, retry, toIdle, abortReceive, takeSender, clearPoll, freeSender, storeAfter}
-use Rattle.laws.proofs.Lists.{take-up-to}
+use Rattle.laws.proofs.Below.{take-up-to}
 use Rattle.model.proofs.Laws.{by}
 
 -- the place of thread y's j-th word

@@ -132,6 +132,10 @@ well-formed-told t e =
       copies = each-same t _ .1 copies;
     }
 
+-- a well-formed table has at most 32 threads
+pub formed-few : (t : Table) → wellFormed t ≡ true → t .n ≤ 32
+formed-few t e = size-read (t .n) (well-formed-told t e .size) .1
+
 -- the facts and the test are the same
 pub well-formed-same : (t : Table) → (WellFormed t) ↔ (wellFormed t ≡ true)
 well-formed-same t = (well-formed-tested t, well-formed-told t)

@@ -9,6 +9,7 @@ use lib.ListN.{replicate}
 use lib.Dec.{eqb, ltb}
 use lib.IntN.{ℤ, pos, negsuc}
 use Rattle.model.specs.declared.Record.{Record}
+use Rattle.model.specs.declared.Table.{Table}
 use Rattle.model.specs.Lists.{upTo, concat}
 use Rattle.model.specs.Threads.{newTable}
 use Rattle.model.specs.Calls.{Call, begin, step, cancel, tick, State}
@@ -56,6 +57,10 @@ pub record Tally : Type 0 where
   pub records : ℕ
   pub refused : ℕ
 
+-- a tally by its parts
+abbrev pub tally : Table → List ℕ → ℕ → ℕ → Tally
+tally t store records refused = record { now = state t store; records = records; refused = refused }
+
 -- one record more
 unfoldable pub recordPlayed : Record → Tally → Tally
 recordPlayed r p = record {
@@ -71,7 +76,7 @@ recordsPlayed (r ∷ rs) p = recordsPlayed rs (recordPlayed r p)
 
 -- after the table record: a new table of n threads and a store of zeros
 unfoldable pub started : ℕ → Tally
-started n = record { now = state (newTable n) (replicate (8 * n) 0); records = 1; refused = 0 }
+started n = tally (newTable n) (replicate (8 * n) 0) 1 0
 
 -- ---- printing
 -- "number, code, source, count, and as many words as the count", "in decimal with single spaces"

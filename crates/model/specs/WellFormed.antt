@@ -10,7 +10,6 @@ use lib.Dec.{eqb, leb, ltb}
 use lib.IntN.{ℤ}
 use Rattle.model.specs.declared.SendPart.{SendPart}
 use Rattle.model.specs.declared.Receive.{Receive}
-use Rattle.model.specs.declared.Receive.the-variants.{Absent, Open, Closed}
 use Rattle.model.specs.declared.Thread.{Thread}
 use Rattle.model.specs.declared.Table.{Table}
 use Rattle.model.specs.Lists.{implies, allOf, allBelow, bit, occurs}

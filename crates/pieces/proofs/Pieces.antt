@@ -6,19 +6,20 @@ use Prim.Native.Nat.{ℕ, _+_, _≤_}
 use lib.ListN.{length, drop}
 use lib.Seq.{drop-append-le, drop-drop}
 use Rattle.model.specs.Lists.{concat, allOf}
-use Rattle.model.specs.Refusals.{unless}
+use Rattle.model.specs.Refusals.{unless, makeRefusal}
 use Rattle.model.specs.RecordBytes.{recordLength, threadByte, lawful}
 use Rattle.model.specs.Decoding.{front}
 use Rattle.model.specs.Schedule.{isEmpty}
 use Rattle.model.specs.Bondtrace.{Tally, started, bondtrace}
 use Rattle.model.proofs.Laws.{by}
 use Rattle.laws.proofs.Lists.{cond-true, cond-false}
+use Rattle.laws.proofs.Refusals.{accepted-making}
 use Rattle.pieces.specs.Playing.{Progress, wholeRecord, ahead, playedOn}
 use Rattle.pieces.specs.Pieces.{endText, Piecewise, fresh, nextPiece, inPieces, PiecesAreWhole, RestIsLeft, RestShort, PiecesText, KeepsPace}
 use Rattle.pieces.proofs.Playing.{played-stops}
 use Rattle.pieces.proofs.Ends.{taken-at-most, bad-not-empty, left-short}
 use Rattle.pieces.proofs.Cuts.{bad-stays, goes-on}
-use Rattle.pieces.proofs.WholeText.{table-text, size-accepted}
+use Rattle.pieces.proofs.WholeText.{table-text}
 
 -- where nothing has come in there is no lawful record
 none-unlawful : lawful false (front []) ≡ false
@@ -109,13 +110,13 @@ same-end p input w f = rw (← f .same) (by (w .progress .bad)
     (λ bad. let more : isEmpty (drop (w .progress .taken) input) ≡ false = rw (f .same) (bad-not-empty p input (rw (← f .same) bad)) in rw (f .left bad, more) refl)
     (λ fine. rw (f .kept fine) refl))
 
--- behind a table record of 1 to 32 threads, what is kept when no more comes tells the text
-pub pace-text : (head input : List ℕ) (w : Piecewise) → lawful true head ≡ true → 1 ≤ threadByte head → threadByte head ≤ 32 → KeepsPace (started (threadByte head)) input w
+-- behind a table record that makes a table, what is kept when no more comes tells the text
+pub pace-text : (head input : List ℕ) (w : Piecewise) → lawful true head ≡ true → makeRefusal (threadByte head) ≡ 0 → KeepsPace (started (threadByte head)) input w
     → bondtrace (head ++ input) ≡ endText (w .progress) (w .rest)
 unfolding unless
-pace-text head input w rules least most f =
-    (rw (size-accepted (threadByte head) least most) at (table-text head input rules)) ∙ same-end (started (threadByte head)) input w f
+pace-text head input w rules made f =
+    (rw made at (table-text head input rules)) ∙ same-end (started (threadByte head)) input w f
 
 -- so the text is the same wherever the input is cut
 pub pieces-text : PiecesText
-pieces-text head pieces rules least most = pace-text head (concat pieces) _ rules least most (pace-pieces (started (threadByte head)) pieces)
+pieces-text head pieces rules least most = pace-text head (concat pieces) _ rules (accepted-making (threadByte head) least most) (pace-pieces (started (threadByte head)) pieces)

@@ -7,15 +7,14 @@ use Prim.Native.Nat.{ℕ, _+_, _≤_, _<_}
 use native.Mathlib.Omega.{arith}
 use lib.ListN.{length, take, drop, List·getD-append}
 use lib.Seq.{take-at, take-append-le, drop-at}
-use borrow.Author.Tests.{eqb-true, le-leb}
+use borrow.Author.Tests.{eqb-true}
 use Rattle.model.specs.declared.Record.{Record}
-use Rattle.model.specs.WellFormed.{sizeInRange}
-use Rattle.model.specs.Refusals.{firstRefusal, unless, badSize, makeRefusal}
+use Rattle.model.specs.Refusals.{unless, makeRefusal}
 use Rattle.model.specs.RecordBytes.{tableKind, recordLength, kindByte, threadByte, lawful}
 use Rattle.model.specs.Decoding.{front, recordOf}
 use Rattle.model.specs.Schedule.{Fault, Reading, isEmpty, readFrom, decodeAll}
 use Rattle.model.specs.Bondtrace.{Tally, recordsPlayed, started, finalText, badLine, callsText, readingText, bondtrace}
-use Rattle.model.proofs.Laws.{by, and-made, all-of-read, alike-read}
+use Rattle.model.proofs.Laws.{by, all-of-read, alike-read}
 use Rattle.laws.proofs.Lists.{cond-true, cond-false}
 use Rattle.laws.proofs.Joined.{take-and-rest}
 use Rattle.laws.proofs.Tests.{same-test}
@@ -118,8 +117,3 @@ module _ (head input : List ℕ) (rules : lawful true head ≡ true) where
       let four : length head ≡ 4 = rw at-front at (table-length (head ++ input) (rw at-front rules)) in
       let thread : threadByte (head ++ input) ≡ threadByte head = List·getD-append head input 0 3 (omega arith) in
       whole-text (head ++ input) ∙ rw (at-front, rules, thread, drop-at head input 4 four) refl
-
--- tables of 1 to 32 threads are made
-pub size-accepted : (n : ℕ) → 1 ≤ n → n ≤ 32 → makeRefusal n ≡ 0
-unfolding makeRefusal firstRefusal badSize sizeInRange
-size-accepted n least most = rw (and-made _ _ (le-leb 1 n least) (le-leb n 32 most)) refl

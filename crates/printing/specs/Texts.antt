@@ -2,11 +2,9 @@
 use mathlib.Core.List.{List, _++_}
 use Prim.Native.Nat.{ℕ, _+_, _*_}
 use Rattle.model.specs.declared.Outcome.{Outcome}
-use Rattle.model.specs.declared.Table.{Table}
 use Rattle.model.specs.Lists.{upTo, concat}
 use Rattle.model.specs.Calls.{State}
-use Rattle.model.specs.Promise.{state}
-use Rattle.model.specs.Bondtrace.{ascii, decimal, signed, Tally, threadLine}
+use Rattle.model.specs.Bondtrace.{ascii, decimal, signed, threadLine}
 use Rattle.text.specs.Texts.{longestWord}
 
 -- ---- parts
@@ -17,10 +15,6 @@ outcomeText x u = decimal x ++ ascii " " ++ signed (u .code) ++ ascii " " ++ dec
 -- the lines of the first n threads
 unfoldable pub threadsText : State → ℕ → List ℕ
 threadsText s n = concat (upTo n (threadLine s))
-
--- a tally by its parts, as a contract names them
-abbrev pub tally : Table → List ℕ → ℕ → ℕ → Tally
-tally t store records refused = record { now = state t store; records = records; refused = refused }
 
 -- ---- the most bytes that they have, by the widths of what is printed
 -- number, code, source and count with single spaces: 3 + 1 + 11 + 1 + 3 + 1 + 3

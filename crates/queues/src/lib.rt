@@ -11,7 +11,7 @@ use model::Queue;
 use model::Thread;
 
 // The place in the queue where the search stops: at the first acceptable sender, or past the last.
-pub fn search(h: Thread) -> usize
+fn search(h: Thread) -> usize
     requires { ⌜ h .queue .len ≤ 32 ⌝ }
     ensures { λ r. ⌜ r ≡ searchPlace h ⌝ }
 {

@@ -1,7 +1,7 @@
 -- Demand 2, record by record: the proofs.
 use mathlib.Core.Path.{_≡_, refl, sym, ap, _∙_}
 use mathlib.Core.Logic.{_⊎_, inl, inr}
-use mathlib.Core.Bool.{Bool, true, false, _&&_, and-false}
+use mathlib.Core.Bool.{Bool, true, false, and-false}
 use mathlib.Core.List.{List, _++_}
 use Prim.Native.Nat.{ℕ, zero, suc, _≤_, _<_}
 use native.Mathlib.Omega.{arith}
@@ -10,11 +10,12 @@ use lib.Dec.{eqb, leb}
 use borrow.Author.Tests.{leb-true, leb-false, le-leb, lt-leb}
 use Rattle.model.specs.declared.Record.{Record}
 use Rattle.model.specs.Answers.{accepted, refused, replied}
-use Rattle.model.specs.Refusals.{firstRefusal, unless}
+use Rattle.model.specs.Refusals.{unless}
 use Rattle.model.specs.RecordBytes.{beginKind, lawful}
-use Rattle.model.specs.Decoding.{front, recordOf, unreadable, decodeRefusal, decodeAnswer, decode}
-use Rattle.model.specs.Encoding.{encode, lawfulRecord, unwritable, encodeRefusal, encodeAnswer, encodeBuffer}
+use Rattle.model.specs.Decoding.{front, recordOf, decodeAnswer, decode}
+use Rattle.model.specs.Encoding.{encode, lawfulRecord, encodeRefusal, encodeAnswer, encodeBuffer}
 use Rattle.model.proofs.Laws.{by, and-made}
+use Rattle.laws.proofs.Records.{read-accepted, read-refused, writable, write-accepted, write-refused}
 use Rattle.roundtrip.specs.Fits.{Bytes}
 use Rattle.roundtrip.specs.OneRecord.{Reads, ReadWritten, WrittenRead, ReadingRefused, Writes, RecordWritten, WritingRefused, BytesWritten, WriteThenRead, ReadThenWrite}
 use Rattle.roundtrip.proofs.Operations.{operation-bytes}
@@ -22,20 +23,10 @@ use Rattle.roundtrip.proofs.Records.{front-bytes, front-lawful, record-
 
 -- ---- reading
 module _ (first : Bool) (input : List ℕ) where
-  -- lawful bytes at the front are not refused
-  pub read-accepted : lawful first (front input) ≡ true → decodeRefusal first input ≡ 0
-  unfolding decodeRefusal unreadable firstRefusal
-  read-accepted e = rw e refl
-
-  -- others are, by number 12
-  pub read-refused : lawful first (front input) ≡ false → decodeRefusal first input ≡ 12
-  unfolding decodeRefusal unreadable firstRefusal
-  read-refused e = rw e refl
-
   -- what reading answers and gives where it is not refused
   reads-front : lawful first (front input) ≡ true → (r : Record) → recordOf (front input) ≡ r → front input ≡ encode r → Reads first input r
   unfolding decodeAnswer decode unless
-  reads-front e r item takes = record { answers = rw (read-accepted e) refl; item = rw (read-accepted e) item; takes = takes }
+  reads-front e r item takes = record { answers = rw (read-accepted first input e) refl; item = rw (read-accepted first input e) item; takes = takes }
 
 -- a lawful record is read back from its bytes
 pub read-written : ReadWritten
@@ -68,21 +59,6 @@ record-bytes r fits (suc zero) = omega arith
 record-bytes r fits (suc (suc zero)) = fits .kind
 record-bytes r fits (suc (suc (suc zero))) = fits .thread
 record-bytes r fits (suc (suc (suc (suc i)))) = by (eqb (r .kind) beginKind) (λ e. rw e (operation-bytes (r .op) (fits .op) i)) (λ e. rw e (omega arith))
-
-module _ (first : Bool) (r : Record) (buffer : List ℕ) where
-  -- the test that writing makes
-  abbrev writable : Bool
-  writable = lawfulRecord first r && leb (length (encode r)) (length buffer)
-
-  -- where it holds writing is not refused
-  write-accepted : writable ≡ true → encodeRefusal first r buffer ≡ 0
-  unfolding encodeRefusal unwritable firstRefusal
-  write-accepted e = rw e refl
-
-  -- where it fails it is, by number 12
-  write-refused : writable ≡ false → encodeRefusal first r buffer ≡ 12
-  unfolding encodeRefusal unwritable firstRefusal
-  write-refused e = rw e refl
 
 -- a lawful record is written where it has room, and read back
 pub record-is-written : RecordWritten

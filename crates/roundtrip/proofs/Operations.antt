@@ -20,7 +20,8 @@ use Rattle.model.specs.RecordBytes.{byte, partsByte, partnerByte, receiveTimeBy
 use Rattle.model.specs.Encoding.{wordBytes, partnerOf, partsOf, operationBytes}
 use Rattle.model.specs.Decoding.{operationOf}
 use Rattle.model.proofs.Laws.{by, implies-read, all-of-read, length-up-to}
-use Rattle.laws.proofs.Lists.{bit-small, take-up-to}
+use Rattle.laws.proofs.Lists.{bit-small}
+use Rattle.laws.proofs.Below.{take-up-to}
 use Rattle.roundtrip.specs.Fits.{Bytes, FitsOperation}
 use Rattle.roundtrip.proofs.Lists.{up-to-under}
 use Rattle.roundtrip.proofs.Words.{words-bytes, words-read, words-written, word-small}

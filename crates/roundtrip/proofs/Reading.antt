@@ -13,13 +13,8 @@ use Rattle.model.specs.Decoding.{front, recordOf}
 use Rattle.model.specs.RecordBytes.{lawful}
 use Rattle.model.specs.Schedule.{AllLawful, isEmpty, Reading, readFrom}
 use Rattle.laws.proofs.Schedule.{front-length, lawful-least, lawful-head-long}
+use Rattle.laws.proofs.Records.{read-accepted, read-refused, not-empty}
 use Rattle.roundtrip.proofs.Records.{front-lawful}
-use Rattle.roundtrip.proofs.OneRecord.{read-accepted, read-refused}
-
--- a list with a number in it is not empty
-not-empty : (l : List ℕ) → 0 < length l → isEmpty l ≡ false
-not-empty [] h = absurd (omega arith)
-not-empty (a ∷ l) h = refl
 
 -- reading is at its end: "a lawful schedule has at least its table record"
 abbrev pub atEnd : Bool → List ℕ → Bool

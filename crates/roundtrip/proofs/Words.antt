@@ -9,7 +9,7 @@ use lib.Seq.{getD-drop, drop-append-add, drop-drop, take-all, take-add}
 use Rattle.model.specs.Lists.{concat, upTo}
 use Rattle.model.specs.RecordBytes.{byte, wordAt}
 use Rattle.model.specs.Encoding.{wordBytes}
-use Rattle.laws.proofs.Lists.{take-up-to}
+use Rattle.laws.proofs.Below.{take-up-to}
 use Rattle.laws.proofs.Joined.{concat-snoc}
 use Rattle.roundtrip.specs.Fits.{AllUnder, Bytes}
 use Rattle.roundtrip.proofs.Lists.{drop-under, append-under, nil-under}

@@ -1,18 +1,18 @@
 -- The loop that fills the buffer: what holds each time.
 use mathlib.Core.Path.{_≡_, refl, sym, ap, _∙_, subst}
 use mathlib.Core.Bool.{Bool, true, false}
-use mathlib.Core.List.{List, [], _∷_, _++_}
-use Prim.Native.Nat.{ℕ, zero, suc, _+_, _-_, _*_, _≤_, _<_}
+use mathlib.Core.List.{List, [], _++_}
+use Prim.Native.Nat.{ℕ, _+_, _-_, _*_, _≤_, _<_}
 use native.Mathlib.Omega.{arith}
 use lib.ListN.{length, take, drop, replicate, length-append, length-drop, take-append-drop, length-replicate, replicate-append-replicate}
-use lib.Seq.{length-take-le, take-all, take-append-seam, take-take, drop-drop}
+use lib.Seq.{length-take-le, take-append-seam, take-take, drop-drop}
 use Rattle.model.specs.Refusals.{makeRefusal}
 use Rattle.model.specs.RecordBytes.{threadByte, lawful}
 use Rattle.model.specs.Decoding.{front}
 use Rattle.model.proofs.Laws.{by}
+use Rattle.laws.proofs.Joined.{drop-of-take}
 use Rattle.laws.proofs.Schedule.{front-thread}
-use Rattle.model.proofs.Numbers.{size-read}
-use Rattle.model.proofs.Tested.{well-formed-told}
+use Rattle.model.proofs.Tested.{formed-few}
 use Rattle.refill.specs.Refilled.{Refilled}
 use Rattle.opening.specs.declared.Playback.{Playback}
 use Rattle.opening.specs.Opened.{openRefusal, openSize, opened, Steady}
@@ -33,18 +33,11 @@ pub record Along (t : Playback) (store bytes : List ℕ) : Type 0 where
 
 -- a playback that can go on has at most 32 threads
 pub steady-few : (t : Playback) → Steady t → t .table .n ≤ 32
-steady-few t steady = size-read (t .table .n) (well-formed-told (t .table) (steady .checked .formed) .size) .1
+steady-few t steady = formed-few (t .table) (steady .checked .formed)
 
 -- the bytes of a buffer from start to end
 abbrev pub between : ℕ → ℕ → List ℕ → List ℕ
 between start end buffer = take (end - start) (drop start buffer)
-
--- the first of some bytes dropped
-drop-of-take : (k m : ℕ) (l : List ℕ) → drop k (take m l) ≡ take (m - k) (drop k l)
-drop-of-take zero m l = let all : m ≡ m - 0 = omega arith in ap (λ (n : ℕ). take n l) all
-drop-of-take (suc k) zero l = let none : zero ≡ zero - suc k = omega arith in ap (λ (n : ℕ). take n (drop (suc k) l)) none
-drop-of-take (suc k) (suc m) [] = sym (take-all (suc m - suc k) [] (omega arith))
-drop-of-take (suc k) (suc m) (a ∷ l) = let same : m - k ≡ suc m - suc k = omega arith in drop-of-take k m l ∙ ap (λ (n : ℕ). take n (drop k l)) same
 
 -- what is left behind the first k of them is what is moved down
 left-between : (start end k left : ℕ) (buffer : List ℕ) → end - (start + k) ≡ left → take left (drop (start + k) buffer) ≡ drop k (between start end buffer)
@@ -129,10 +122,6 @@ module _ {buffer words : List ℕ} {size : ℕ} {t : Playback} {start end refill
     -- how many bytes were played
     abbrev took : ℕ
     took = to .place - t .place
-
-    -- not more than there are
-    pub next-within : start + took ≤ end
-    next-within = omega (arith, F .ordered, piece-there, carries .within, carries .onward)
 
     -- the words are still the first of an array of as many as before
     words-kept : length store ≡ size

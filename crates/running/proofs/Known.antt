@@ -9,7 +9,6 @@ use Rattle.model.specs.Refusals.{makeRefusal}
 use Rattle.model.specs.RecordBytes.{threadByte, lawful}
 use Rattle.model.specs.Schedule.{isEmpty}
 use Rattle.model.specs.Bondtrace.{started, finalText, badLine, bondtrace}
-use Rattle.core.proofs.Kept.{new-sized}
 use Rattle.pieces.specs.Playing.{Progress, ahead, playedOn}
 use Rattle.pieces.specs.Pieces.{fresh, nextPiece, KeepsPace, endText}
 use Rattle.pieces.proofs.Pieces.{pace-fresh, pace-next, pace-text}
@@ -63,6 +62,5 @@ pub reached-text : (head input : List ℕ) (bad : Bool) (t : Playback) (store re
     → bondtrace (head ++ input) ≡ cond (isEmpty rest) (finalText (tallyOf t store)) (badLine 12 (t .place))
 unfolding known endText
 reached-text head input bad t store rest r =
-    let size = new-sized (threadByte head) (r .made) in
-    pace-text head input (known bad t store rest) (r .lawfully) (size .0) (size .1) (r .paced)
+    pace-text head input (known bad t store rest) (r .lawfully) (r .made) (r .paced)
     ∙ ap (λ (k : ℕ). cond (isEmpty rest) (finalText (tallyOf t store)) (badLine 12 k)) (omega (arith, r .behind))

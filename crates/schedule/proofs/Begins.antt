@@ -1,5 +1,5 @@
 -- The rules of a begin, as the code tests them: the fields that the parts do not use, and the words past the count, one after the other.
-use mathlib.Core.Path.{_≡_, refl, sym, _∙_}
+use mathlib.Core.Path.{_≡_, refl, sym}
 use mathlib.Core.Logic.{_≢_}
 use mathlib.Core.Bool.{Bool, true, false, not, _&&_, _||_, or-true}
 use mathlib.Core.List.{List, [], _∷_}
@@ -9,7 +9,8 @@ use lib.Dec.{eqb, ltb}
 use borrow.Author.Tests.{lt-ltb, le-ltb, eq-eqb, ne-eqb}
 use Rattle.model.specs.Lists.{implies, allOf, allBelow}
 use Rattle.model.specs.RecordBytes.{wordAt}
-use Rattle.model.proofs.Laws.{by, same?, all-below-read, all-below-made}
+use Rattle.model.proofs.Laws.{same?, all-below-made}
+use Rattle.laws.proofs.Below.{all-below-fails}
 use Rattle.laws.proofs.Tests.{all-joined}
 
 -- ---- the fields that the parts do not use
@@ -59,12 +60,7 @@ module _ (bytes : List ℕ) (count : ℕ) where
 
     -- it fails at another
     pub passed-not : i < 8 → wordAt bytes i ≢ 0 → false ≡ allBelow 8 (wordLawful bytes count)
-    passed-not l d = by (allBelow 8 (wordLawful bytes count))
-        (λ e. sym fails ∙ all-below-read 8 (wordLawful bytes count) e i l ∙ sym e)
-        (λ e. sym e)
-      where
-        fails : wordLawful bytes count i ≡ false
-        fails = rw (le-ltb i count (p .counted), ne-eqb (wordAt bytes i) 0 d) refl
+    passed-not l d = all-below-fails 8 (wordLawful bytes count) i l (rw (le-ltb i count (p .counted), ne-eqb (wordAt bytes i) 0 d) refl)
 
     -- it holds where none is left
     pub passed-all : 8 ≤ i → true ≡ allBelow 8 (wordLawful bytes count)

@@ -3,35 +3,24 @@ use mathlib.Core.Path.{_≡_, refl, sym, _∙_}
 use mathlib.Core.Logic.{_≢_}
 use mathlib.Core.Bool.{Bool, true, false, Bool·beq, _&&_, and-true, and-false, false≢true}
 use mathlib.Core.List.{List, [], _∷_}
-use Prim.Native.Nat.{ℕ, zero, suc, _+_, _*_, _≤_, _<_}
+use Prim.Native.Nat.{ℕ, _+_, _*_, _≤_, _<_}
 use native.Mathlib.Omega.{arith}
 use lib.ListN.{length}
 use lib.Seq.{length-take-le, take-all}
 use lib.Dec.{eqb, leb, ltb}
 use borrow.Author.Tests.{ltb-true, eqb-true, eq-eqb, ne-eqb, le-leb, lt-leb, leb-true, leb-false}
-use Rattle.model.specs.Lists.{implies, allOf, allBelow, upTo}
+use Rattle.model.specs.Lists.{implies, allOf}
 use Rattle.model.specs.RecordBytes.{tableKind, beginKind, tickKind, recordLength, byte, kindByte, countByte, wordAt, lawfulBegin, lawful}
 use Rattle.model.specs.Decoding.{operationOf, front}
-use Rattle.model.proofs.Laws.{by, and-left}
+use Rattle.model.proofs.Laws.{by, and-left, all-of-read}
 -- those who cite the laws below find these beside them
-pub use Rattle.laws.proofs.Schedule.{record-head, record-begin, front-kind, front-thread, lawful-long, lawful-head-long}
-use Rattle.laws.proofs.Schedule.{record-other, front-byte, head-byte}
+pub use Rattle.laws.proofs.Schedule.{front-kind, lawful-long}
+use Rattle.laws.proofs.Below.{up-to-alike, all-below-alike}
+use Rattle.laws.proofs.Schedule.{record-begin, record-other, front-byte, head-byte, front-thread}
 use Rattle.schedule.specs.Heads.{lawfulHead}
 use Rattle.schedule.proofs.Begins.{wordLawful}
 
 -- ---- what is read
--- functions with the same values below n have the same list there
-up-to-alike : (n : ℕ) (f g : ℕ → ℕ) → ((i : ℕ) → i < n → f i ≡ g i) → upTo n f ≡ upTo n g
-unfolding upTo
-up-to-alike zero f g h = refl
-up-to-alike (suc k) f g h = rw (up-to-alike k f g (λ i l. h i (omega arith)), h k (omega arith)) refl
-
--- and tests with the same values hold of all there together
-all-below-alike : (n : ℕ) (f g : ℕ → Bool) → ((i : ℕ) → i < n → f i ≡ g i) → allBelow n f ≡ allBelow n g
-unfolding allBelow
-all-below-alike zero f g h = refl
-all-below-alike (suc k) f g h = rw (all-below-alike k f g (λ i l. h i (omega arith)), h k (omega arith)) refl
-
 -- bytes with the same first 42
 abbrev Alike : List ℕ → List ℕ → Type 0
 Alike p q = (i : ℕ) → i < 42 → byte p i ≡ byte q i
@@ -77,15 +66,6 @@ regrouped true true true false n t g = refl
 regrouped true true false f n t g = refl
 regrouped true false k f n t g = refl
 regrouped false b k f n t g = refl
-
--- the two tests of the kind, of the five of a head
-kind-tests : (a b k f t : Bool) → allOf (a ∷ b ∷ k ∷ f ∷ t ∷ []) ≡ true → (k ≡ true) × (f ≡ true)
-unfolding allOf
-kind-tests true true true true t e = (refl, refl)
-kind-tests true true true false t e = absurd (false≢true e)
-kind-tests true true false f t e = absurd (false≢true e)
-kind-tests true false k f t e = absurd (false≢true e)
-kind-tests false b k f t e = absurd (false≢true e)
 
 module _ (bytes : List ℕ) where
   -- the record is whole where there are as many bytes
@@ -137,7 +117,7 @@ module _ (bytes : List ℕ) where
       -- its kind is one of those there are, and the table's exactly if it is the first
       kind-lawful : (leb (kindByte bytes) tickKind ≡ true) × (Bool·beq first (eqb (kindByte bytes) tableKind) ≡ true)
       unfolding lawfulHead
-      kind-lawful = kind-tests _ _ _ _ _ head-of-lawful
+      kind-lawful = let tests = all-of-read _ head-of-lawful .1 .1 in (tests .0, tests .1 .0)
 
       -- so it is at most the last
       pub lawful-kind : kindByte bytes ≤ tickKind

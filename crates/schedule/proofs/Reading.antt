@@ -8,10 +8,12 @@ use borrow.Author.Tests.{eq-eqb, ne-eqb}
 use Rattle.model.specs.declared.Answer.the-variants.{Refused, Accepted}
 use Rattle.model.specs.declared.Record.{Record}
 use Rattle.model.specs.Threads.{noOperation}
-use Rattle.model.specs.Refusals.{firstRefusal, unless}
+use Rattle.model.specs.Refusals.{unless}
 use Rattle.model.specs.RecordBytes.{beginKind, kindByte, threadByte, lawful}
-use Rattle.model.specs.Decoding.{operationOf, recordOf, front, unreadable, decodeRefusal, decodeAnswer, decode, DecodePromise}
-use Rattle.schedule.proofs.Fronts.{front-kind, front-thread, front-operation}
+use Rattle.model.specs.Decoding.{operationOf, recordOf, front, decodeAnswer, decode, DecodePromise}
+use Rattle.laws.proofs.Schedule.{front-kind, front-thread}
+use Rattle.laws.proofs.Records.{read-accepted, read-refused}
+use Rattle.schedule.proofs.Fronts.{front-operation}
 
 -- the record at the front of bytes that start with no begin
 pub bare-read : (bytes : List ℕ) → kindByte bytes ≢ beginKind → record { kind = kindByte bytes; thread = threadByte bytes; op = noOperation } ≡ recordOf (front bytes)
@@ -26,10 +28,10 @@ begin-read bytes e = rw (front-kind bytes, front-thread bytes, front-operation b
 module _ (first : Bool) (bytes : List ℕ) where
   -- reading bytes that start with no lawful record is refused
   pub refused-read : (item : Record) → lawful first (front bytes) ≡ false → item ≡ record { kind = 0; thread = 0; op = noOperation } → DecodePromise first bytes (Refused 12) item
-  unfolding decodeAnswer decode decodeRefusal unreadable firstRefusal unless
-  refused-read item e i = record { answers = rw e refl; reads = rw e i }
+  unfolding decodeAnswer decode unless
+  refused-read item e i = record { answers = rw (read-refused first bytes e) refl; reads = rw (read-refused first bytes e) i }
 
   -- reading a lawful one is accepted
   pub accepted-read : (item : Record) → lawful first (front bytes) ≡ true → item ≡ recordOf (front bytes) → DecodePromise first bytes Accepted item
-  unfolding decodeAnswer decode decodeRefusal unreadable firstRefusal unless
-  accepted-read item e i = record { answers = rw e refl; reads = rw e i }
+  unfolding decodeAnswer decode unless
+  accepted-read item e i = record { answers = rw (read-accepted first bytes e) refl; reads = rw (read-accepted first bytes e) i }

@@ -16,7 +16,7 @@ use model::Record;
 use model::SendPart;
 
 // The kind of the record that makes a table, the first of a schedule.
-pub const TABLE: u8 = 0;
+const TABLE: u8 = 0;
 
 // The kind of a begin.
 pub const BEGIN: u8 = 1;

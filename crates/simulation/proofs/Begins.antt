@@ -20,7 +20,6 @@ use Rattle.model.specs.Calls.{begunFlags, begun, beginTable, State}
 use Rattle.model.specs.Atomic.{Machine, begins, ending, beginning, play, Can}
 use Rattle.laws.proofs.Tables.{edit-at, edit-two-at}
 use Rattle.laws.proofs.Store.{words-zeroed-other}
-use Rattle.laws.proofs.Decided.{lock-free-read}
 use Rattle.laws.proofs.Refusals.{AcceptedBegin}
 use Rattle.laws.proofs.Calls.{begin-cases}
 use Rattle.formed.proofs.Flags.{cases}
@@ -86,10 +85,7 @@ module _ {n : ℕ} {p : Machine} {T : ℕ → Thread} {store : List ℕ} (S : Si
 pub begin-leads : (s : State) {p : Machine} → Simulates (s .table .n) p (at (s .table)) (s .store) → length (s .table .threads) ≡ 32 → (x : ℕ) (o : Operation) → AcceptedBegin s x o
     → Leads (s .table .n) (some (begins x o)) p (at (beginTable x o (s .table))) (zeroed x (s .store))
 begin-leads s {p} S whole x o b = let t = s .table in begin-cases x o t (λ after. Leads (t .n) (some (begins x o)) p (at after) (zeroed x (s .store)))
-    (λ far. rw (edit-at x (ended (codeOnly noReceiver)) t (omega arith)) (beyond-leads S x (b .below) unowned (b .inIdle) o far))
+    (λ far. rw (edit-at x (ended (codeOnly noReceiver)) t (omega arith)) (beyond-leads S x (b .below) (b .unowned) (b .inIdle) o far))
     (λ near sends below. rw (edit-two-at x (o .send .target) (begun o lock) (joined x) t (omega arith) (omega arith) (λ i. b .otherTarget sends (sym i)))
-    (to-send-leads S x (b .below) unowned (b .inIdle) o near))
-    (λ near alone. rw (edit-at x (begun o look) t (omega arith)) (to-receive-leads S x (b .below) unowned (b .inIdle) o near))
-  where
-    unowned : at (s .table) x .owner ≡ nobody
-    unowned = lock-free-read (at (s .table) x) (b .free)
+    (to-send-leads S x (b .below) (b .unowned) (b .inIdle) o near))
+    (λ near alone. rw (edit-at x (begun o look) t (omega arith)) (to-receive-leads S x (b .below) (b .unowned) (b .inIdle) o near))

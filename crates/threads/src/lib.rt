@@ -111,7 +111,7 @@ pub fn tick_count(code: u8) -> u16
 }
 
 // left after a tick.
-pub fn fall_by_one(left: u16) -> u16
+fn fall_by_one(left: u16) -> u16
     ensures { λ r. ⌜ r ≡ fall left ⌝ }
 {
     if left == NEVER {

@@ -15,9 +15,8 @@ use Rattle.model.specs.Refusals.{refusal, unless}
 use Rattle.model.specs.Promise.{state, next, Promise}
 use Rattle.model.specs.RecordBytes.{kindByte, recordLength, lawful}
 use Rattle.model.specs.Decoding.{front, recordOf}
-use Rattle.model.specs.Bondtrace.{callOf, Tally, recordPlayed}
-use Rattle.model.proofs.Numbers.{size-read}
-use Rattle.model.proofs.Tested.{well-formed-told}
+use Rattle.model.specs.Bondtrace.{callOf, Tally, tally, recordPlayed}
+use Rattle.model.proofs.Tested.{formed-few}
 use Rattle.laws.proofs.Calls.{refused-next}
 use Rattle.laws.proofs.Schedule.{record-head, lawful-long, lawful-head-long}
 use Rattle.pieces.specs.Playing.{Progress, playedOn, wholeRecord}
@@ -34,10 +33,6 @@ from-place bytes at = take (length bytes - at) (drop at bytes)
 -- they are what is left
 pub left-there : (bytes : List ℕ) (at : ℕ) → from-place bytes at ≡ drop at bytes
 left-there bytes at = take-all (length bytes - at) (drop at bytes) (omega (arith, length-drop at bytes))
-
--- the table, the store and the counts of a turn
-abbrev pub counts : Table → List ℕ → ℕ → ℕ → Tally
-counts now store records refused = record { now = state now store; records = records; refused = refused }
 
 -- ---- one record played
 module _ (item : Record) (p : Tally) (c : Call) (is : callOf item ≡ c) where
@@ -84,7 +79,7 @@ pub record Goes (from : Playback) (store₀ bytes : List ℕ) (n : ℕ) (store :
   -- on as many threads as before
   pub size : now .n ≡ n
   -- the records up to this place are played
-  pub same : PlayedTo (tallyOf from store₀) bytes at (counts now store records refused)
+  pub same : PlayedTo (tallyOf from store₀) bytes at (tally now store records refused)
   -- and the counts have room
   pub fewer : refused ≤ records
   pub counted : records ≤ from .records + at
@@ -106,7 +101,7 @@ goes-first from store bytes ready = record {
 module _ {from : Playback} {store₀ bytes : List ℕ} {n : ℕ} {store : List ℕ} {now : Table} {records refused at : ℕ} (G : Goes from store₀ bytes n store now records refused at) where
   -- there are at most 32 threads
   pub few-threads : n ≤ 32
-  few-threads = omega (arith, G .size, size-read (now .n) (well-formed-told now (G .runnable .checked .formed) .size) .1)
+  few-threads = omega (arith, G .size, formed-few now (G .runnable .checked .formed))
 
   -- ---- a turn, with a lawful record at the front
   module _ (good : lawful false (front (from-place bytes at)) ≡ true) where
@@ -136,13 +131,13 @@ module _ {from : Playback} {store₀ bytes : List ℕ} {n : ℕ} {store : List �
       fewer-left = omega (arith, record-within, record-head (kindByte rest), passes)
 
       -- playing goes on from the tally q
-      pub goes-on : (after : Table) (words : List ℕ) (more : ℕ) → recordPlayed (recordOf (front rest)) (counts now store records refused) ≡ counts after words (records + 1) more
+      pub goes-on : (after : Table) (words : List ℕ) (more : ℕ) → recordPlayed (recordOf (front rest)) (tally now store records refused) ≡ tally after words (records + 1) more
           → Runnable (state after words) → after .n ≡ n → more ≤ refused + 1 → Goes from store₀ bytes n words after (records + 1) more to
       goes-on after words more plays runs sized bound = record {
         within = omega (arith, record-within);
         runnable = runs;
         size = sized;
-        same = past-record (tallyOf from store₀) (counts now store records refused) (counts after words (records + 1) more) bytes rest at to (left-there bytes at) good passes plays (G .same);
+        same = past-record (tallyOf from store₀) (tally now store records refused) (tally after words (records + 1) more) bytes rest at to (left-there bytes at) good passes plays (G .same);
         fewer = omega (arith, G .fewer);
         counted = omega (arith, G .counted, record-head (kindByte rest));
         room = G .room;
@@ -152,22 +147,22 @@ module _ {from : Playback} {store₀ bytes : List ℕ} {n : ℕ} {store : List �
         -- a call that is accepted and keeps its promise
         pub turn-accepted : refusal c (state now store) ≡ 0 → (a : Answer) (after : Table) (words : List ℕ) → Promise c (state now store) a (state after words) → Goes from store₀ bytes n words after (records + 1) refused to
         turn-accepted e a after words kept = goes-on after words refused
-            (played-accepted (recordOf (front rest)) (counts now store records refused) c calls e ∙ ap (λ (s : State). record { now = s; records = records + 1; refused = refused }) (sym (kept .leaves)))
+            (played-accepted (recordOf (front rest)) (tally now store records refused) c calls e ∙ ap (λ (s : State). record { now = s; records = records + 1; refused = refused }) (sym (kept .leaves)))
             (keeps-runnable c (state now store) a (state after words) kept (G .runnable))
             (keeps-size c (state now store) a (state after words) kept ∙ G .size)
             (omega arith)
 
         -- a call that is refused
         pub turn-refused : refusal c (state now store) ≢ 0 → Goes from store₀ bytes n store now (records + 1) (refused + 1) to
-        turn-refused d = goes-on now store (refused + 1) (played-refused (recordOf (front rest)) (counts now store records refused) c calls d) (G .runnable) (G .size) (omega arith)
+        turn-refused d = goes-on now store (refused + 1) (played-refused (recordOf (front rest)) (tally now store records refused) c calls d) (G .runnable) (G .size) (omega arith)
 
   -- ---- the end, where no lawful record stands at the front
   pub goes-last : lawful false (front (from-place bytes at)) ≡ false → (place : ℕ) → place ≡ from .place + at → (bad : Bool) → bad ≡ wholeRecord (from-place bytes at)
       → PlayPromise from store₀ bytes (record { table = now; records = records; refused = refused; place = place }) store bad
   unfolding tallyOf
   goes-last none-left place there bad tells =
-      let ends : playedOn (tallyOf from store₀) bytes ≡ record { tally = counts now store records refused; taken = at; bad = wholeRecord (drop at bytes) } =
-      played-to-end (tallyOf from store₀) bytes at (counts now store records refused) (G .same) (subst (λ (l : List ℕ). lawful false (front l) ≡ false) (left-there bytes at) none-left) in
+      let ends : playedOn (tallyOf from store₀) bytes ≡ record { tally = tally now store records refused; taken = at; bad = wholeRecord (drop at bytes) } =
+      played-to-end (tallyOf from store₀) bytes at (tally now store records refused) (G .same) (subst (λ (l : List ℕ). lawful false (front l) ≡ false) (left-there bytes at) none-left) in
       record {
         plays = ap (λ (q : Progress). q .tally) (sym ends);
         takes = there ∙ ap (λ (q : Progress). from .place + q .taken) (sym ends);

@@ -4,15 +4,14 @@ use mathlib.Core.Bool.{Bool}
 use mathlib.Core.List.{List}
 use Prim.Native.Nat.{ℕ, _+_, _*_, _≤_, _<_}
 use lib.ListN.{length}
-use Rattle.model.specs.Promise.{state}
-use Rattle.model.specs.Bondtrace.{Tally}
+use Rattle.model.specs.Bondtrace.{Tally, tally}
 use Rattle.pieces.specs.Playing.{playedOn}
 use Rattle.opening.specs.Opened.{Steady}
 use Rattle.opening.specs.declared.Playback.{Playback}
 
 -- the table, the store and the counts of a trace
 unfoldable pub tallyOf : Playback → List ℕ → Tally
-tallyOf t store = record { now = state (t .table) store; records = t .records; refused = t .refused }
+tallyOf t store = tally (t .table) store (t .records) (t .refused)
 
 -- it can go on by this many bytes with this store: the store has the table's length, and the counts have room
 pub record Playable (t : Playback) (store : List ℕ) (bytes : ℕ) : Type 0 where

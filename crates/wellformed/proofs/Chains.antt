@@ -11,7 +11,7 @@ use Rattle.model.specs.Lists.{allBelow}
 use Rattle.model.specs.Codes.{nobody}
 use Rattle.model.specs.WellFormed.{chain, within}
 use Rattle.model.proofs.Laws.{by, same?, all-below-read, all-below-made}
-use Rattle.wellformed.proofs.Below.{all-below-fails, all-below-more, all-below-end}
+use Rattle.laws.proofs.Below.{all-below-fails, all-below-more, all-below-end}
 use Rattle.wellformed.specs.Links.{chainEnds}
 
 -- the owner that the chain from r has after k others is not r

@@ -1,4 +1,3 @@
-pub mod Below
 pub mod Entering
 pub mod Chains
 pub mod Waits

@@ -11,33 +11,30 @@ use borrow.Author.Tests.{le-leb, lt-leb}
 use Rattle.model.specs.declared.Answer.the-variants.{Refused, Accepted}
 use Rattle.model.specs.declared.Record.{Record}
 use Rattle.model.specs.Lists.{allOf}
-use Rattle.model.specs.Refusals.{firstRefusal, unless}
+use Rattle.model.specs.Refusals.{unless}
 use Rattle.model.specs.RecordBytes.{beginKind, recordLength, kindByte, lawful}
 use Rattle.model.specs.Decoding.{front}
-use Rattle.model.specs.Encoding.{encode, lawfulRecord, unwritable, encodeRefusal, encodeAnswer, encodeBuffer, EncodePromise}
+use Rattle.model.specs.Encoding.{encode, lawfulRecord, encodeAnswer, encodeBuffer, EncodePromise}
 use Rattle.model.proofs.Laws.{by}
+use Rattle.laws.proofs.Schedule.{record-longest}
+use Rattle.laws.proofs.Records.{writable, write-accepted, write-refused}
 use Rattle.writing.specs.Spelled.{spelled, isBare}
 
 module _ (first : Bool) (item : Record) (bytes : List ℕ) where
-  -- the record may be written
-  abbrev writable : Bool
-  writable = lawfulRecord first item && leb (length (encode item)) (length bytes)
+  -- a record that may not be written is refused
+  refused-write : writable first item bytes ≡ false → EncodePromise first item bytes (Refused 12) bytes
+  unfolding encodeAnswer encodeBuffer unless
+  refused-write e = record { answers = rw (write-refused first item bytes e) refl; writes = rw (write-refused first item bytes e) refl }
 
-  -- a record that may not is refused
-  refused-write : writable ≡ false → EncodePromise first item bytes (Refused 12) bytes
-  unfolding encodeAnswer encodeBuffer encodeRefusal unwritable firstRefusal unless
-  refused-write e = record { answers = rw e refl; writes = rw e refl }
-
-  -- one that may stands before the bytes past it
-  accepted-write : writable ≡ true → (after : List ℕ) → after ≡ encode item ++ drop (length (encode item)) bytes → EncodePromise first item bytes Accepted after
-  unfolding encodeAnswer encodeBuffer encodeRefusal unwritable firstRefusal unless
-  accepted-write e after i = record { answers = rw e refl; writes = rw e i }
+  -- a record that may be written stands before the bytes past it
+  accepted-write : writable first item bytes ≡ true → (after : List ℕ) → after ≡ encode item ++ drop (length (encode item)) bytes → EncodePromise first item bytes Accepted after
+  unfolding encodeAnswer encodeBuffer unless
+  accepted-write e after i = record { answers = rw (write-accepted first item bytes e) refl; writes = rw (write-accepted first item bytes e) i }
 
 module _ (item : Record) (space : List ℕ) (is : space ≡ spelled item) (whole : length space ≡ 42) where
   -- a record is not longer than a begin
   pub record-fits : recordLength (item .kind) ≤ length space
-  unfolding recordLength
-  record-fits = by (eqb (item .kind) beginKind) (λ e. rw e (omega arith)) (λ e. rw e (omega arith))
+  record-fits = omega (arith, record-longest (item .kind))
 
   -- its bytes are at the front of those that are spelled
   front-spelled : take (recordLength (item .kind)) space ≡ encode item

@@ -1,4 +1,4 @@
-use Rattle.schedule.proofs.Fronts.{lawful-head-long}
+use Rattle.laws.proofs.Schedule.{lawful-head-long}
 use Rattle.model.specs.Decoding.{front}
 use Rattle.model.specs.RecordBytes.{lawful}
 use borrow.Author.Tests.{not-true, not-false}

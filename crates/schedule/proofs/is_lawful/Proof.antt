@@ -6,7 +6,8 @@ use borrow.Author.Tests.{not-true, not-false}
 use borrow.Author.Needs.{needs}
 use Rattle.model.specs.RecordBytes.{kindByte}
 use Rattle.schedule.specs.Heads.{lawfulHead}
-use Rattle.schedule.proofs.Fronts.{record-head, record-begin, lawful-cut, lawful-no-head, lawful-other, lawful-whole}
+use Rattle.laws.proofs.Schedule.{record-head, record-begin}
+use Rattle.schedule.proofs.Fronts.{lawful-cut, lawful-no-head, lawful-other, lawful-whole}
 use Rattle.schedule.proofs.is_lawful.Statement.{statement}
 use Rattle.schedule.proofs.is_lawful.Tie as tie
 

@@ -7,7 +7,8 @@ use borrow.Author.Needs.{needs}
 use Rattle.model.specs.RecordBytes.{lawful}
 use Rattle.model.specs.Decoding.{front}
 use Rattle.schedule.proofs.Reading.{bare-read, begin-read, refused-read, accepted-read}
-use Rattle.schedule.proofs.Fronts.{lawful-head-long, lawful-begin-long}
+use Rattle.laws.proofs.Schedule.{lawful-head-long}
+use Rattle.schedule.proofs.Fronts.{lawful-begin-long}
 use Rattle.schedule.proofs.read.Statement.{statement}
 use Rattle.schedule.proofs.read.Tie as tie
 

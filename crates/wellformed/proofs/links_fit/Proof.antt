@@ -5,7 +5,7 @@ use native.Mathlib.Omega.{arith}
 use borrow.Author.Needs.{needs}
 use borrow.Author.Tests.{not-true, not-false}
 use Rattle.model.specs.Lists.{allBelow}
-use Rattle.wellformed.proofs.Below.{all-below-fails, all-below-more, all-below-end}
+use Rattle.laws.proofs.Below.{all-below-fails, all-below-more, all-below-end}
 use Rattle.wellformed.specs.Links.{numberAt, linkFits}
 use Rattle.wellformed.proofs.links_fit.Statement.{statement}
 use Rattle.wellformed.proofs.links_fit.Tie as tie
