@@ -1,4 +1,4 @@
 // Plays the schedule on standard input and prints how it ends.
 fn main() {
-    running::run(0);
+    end_printing::run(0);
 }

@@ -37,13 +37,13 @@ pub fn open(bytes: &[u8]) -> Opened
     ensures playback { λ r. ⌜ r .playback ≡ opened (openSize (now (bytes .entry))) ⌝ }
     ensures steady { λ r. ⌜ (r .number ≡ 0 → (4 ≤ length (now (bytes .entry))) × Steady (r .playback)) ⌝ }
 {
-    if !schedule::is_lawful(true, bytes) {
+    if !reading::is_lawful(true, bytes) {
         return Opened {
-            number: schedule::BAD_RECORD,
+            number: reading::BAD_RECORD,
             playback: fresh(0),
         };
     }
-    let n = bytes[schedule::THREAD];
+    let n = bytes[reading::THREAD];
     let number = refusals::size_refusal(n);
     if number != 0 {
         return Opened {

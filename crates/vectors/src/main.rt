@@ -15,11 +15,11 @@ fn play(name: &[u8], steps: bool) {
     io::write_all(STDOUT_FILENO, b"\n");
     let input = os::open_read(name);
     if steps {
-        following::follow(input);
+        step_printing::follow(input);
         libc::close(input);
         return;
     }
-    running::run(input);
+    end_printing::run(input);
     libc::close(input);
 }
 

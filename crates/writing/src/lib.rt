@@ -10,21 +10,21 @@ use model::Answer;
 use model::Operation;
 use model::Receive;
 use model::Record;
-use schedule::BAD_RECORD;
-use schedule::BEGIN;
-use schedule::BEGIN_BYTES;
-use schedule::COUNT;
-use schedule::FIRST_MARK;
-use schedule::FIRST_WORD;
-use schedule::HEAD_BYTES;
-use schedule::KIND;
-use schedule::PARTNER;
-use schedule::PARTS;
-use schedule::RECEIVE_TIME;
-use schedule::SECOND_MARK;
-use schedule::SEND_TIME;
-use schedule::TARGET;
-use schedule::THREAD;
+use reading::BAD_RECORD;
+use reading::BEGIN;
+use reading::BEGIN_BYTES;
+use reading::COUNT;
+use reading::FIRST_MARK;
+use reading::FIRST_WORD;
+use reading::HEAD_BYTES;
+use reading::KIND;
+use reading::PARTNER;
+use reading::PARTS;
+use reading::RECEIVE_TIME;
+use reading::SECOND_MARK;
+use reading::SEND_TIME;
+use reading::TARGET;
+use reading::THREAD;
 
 // 1 for true, 0 for false.
 fn bit_of(b: bool) -> u8
@@ -149,10 +149,10 @@ pub fn write(first: bool, item: Record, bytes: &mut [u8]) -> Answer
     if !is_bare(item.kind, &space) {
         return Answer::Refused(BAD_RECORD);
     }
-    if !schedule::is_lawful(first, &space) {
+    if !reading::is_lawful(first, &space) {
         return Answer::Refused(BAD_RECORD);
     }
-    let n = schedule::record_length(item.kind);
+    let n = reading::record_length(item.kind);
     if bytes.len() < n {
         return Answer::Refused(BAD_RECORD);
     }

@@ -2,7 +2,7 @@ use denote.Ref.{now}
 use borrow.Author.Needs.{needs}
 use Rattle.model.specs.Bondtrace.{ascii}
 use Rattle.model.specs.Lists.{upTo}
-use Rattle.printing.specs.Texts.{tally}
+use Rattle.model.specs.Bondtrace.{tally}
 use Rattle.text.proofs.Writing.{printed}
 use Rattle.printing.proofs.Bounds.{final-short}
 use Rattle.printing.proofs.Texts.{final-written}

@@ -1,0 +1,37 @@
+-- What reading a record promises, where it is refused and where it is accepted.
+use mathlib.Core.Path.{_≡_, refl}
+use mathlib.Core.Logic.{_≢_}
+use mathlib.Core.Bool.{Bool, true, false}
+use mathlib.Core.List.{List}
+use Prim.Native.Nat.{ℕ}
+use borrow.Author.Tests.{eq-eqb, ne-eqb}
+use Rattle.model.specs.declared.Answer.the-variants.{Refused, Accepted}
+use Rattle.model.specs.declared.Record.{Record}
+use Rattle.model.specs.Threads.{noOperation}
+use Rattle.model.specs.Refusals.{unless}
+use Rattle.model.specs.RecordBytes.{beginKind, kindByte, threadByte, lawful}
+use Rattle.model.specs.Decoding.{operationOf, recordOf, front, decodeAnswer, decode, DecodePromise}
+use Rattle.laws.proofs.Schedule.{front-kind, front-thread}
+use Rattle.laws.proofs.Records.{read-accepted, read-refused}
+use Rattle.reading.proofs.Fronts.{front-operation}
+
+-- the record at the front of bytes that start with no begin
+pub bare-read : (bytes : List ℕ) → kindByte bytes ≢ beginKind → record { kind = kindByte bytes; thread = threadByte bytes; op = noOperation } ≡ recordOf (front bytes)
+unfolding recordOf
+bare-read bytes d = rw (front-kind bytes, front-thread bytes, ne-eqb (kindByte bytes) beginKind d) refl
+
+-- and of bytes that start with one
+pub begin-read : (bytes : List ℕ) → kindByte bytes ≡ beginKind → record { kind = kindByte bytes; thread = threadByte bytes; op = operationOf bytes } ≡ recordOf (front bytes)
+unfolding recordOf
+begin-read bytes e = rw (front-kind bytes, front-thread bytes, front-operation bytes e, eq-eqb (kindByte bytes) beginKind e) refl
+
+module _ (first : Bool) (bytes : List ℕ) where
+  -- reading bytes that start with no lawful record is refused
+  pub refused-read : (item : Record) → lawful first (front bytes) ≡ false → item ≡ record { kind = 0; thread = 0; op = noOperation } → DecodePromise first bytes (Refused 12) item
+  unfolding decodeAnswer decode unless
+  refused-read item e i = record { answers = rw (read-refused first bytes e) refl; reads = rw (read-refused first bytes e) i }
+
+  -- reading a lawful one is accepted
+  pub accepted-read : (item : Record) → lawful first (front bytes) ≡ true → item ≡ recordOf (front bytes) → DecodePromise first bytes Accepted item
+  unfolding decodeAnswer decode unless
+  accepted-read item e i = record { answers = rw (read-accepted first bytes e) refl; reads = rw (read-accepted first bytes e) i }

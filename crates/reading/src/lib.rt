@@ -1,0 +1,189 @@
+// One record of a schedule, read from bytes: document 01, "Schedule bytes".
+mod begin_bytes;
+
+ghost use mathlib.Core.Path.{_≡_};
+ghost use Prim.Native.Nat.{_≤_};
+ghost use lib.ListN.{length};
+ghost use Rattle.model.specs.Threads.{noOperation};
+ghost use Rattle.model.specs.RecordBytes.{recordLength, lawful};
+ghost use Rattle.model.specs.Decoding.{operationOf, front, DecodePromise};
+ghost use Rattle.reading.specs.Heads.{lawfulHead};
+use model::Answer;
+use model::Decoded;
+use model::Operation;
+use model::Receive;
+use model::Record;
+use model::SendPart;
+
+// The kind of the record that makes a table, the first of a schedule.
+const TABLE: u8 = 0;
+
+// The kind of a begin.
+pub const BEGIN: u8 = 1;
+
+// The kind of a step.
+pub const STEP: u8 = 2;
+
+// The kind of a cancel.
+pub const CANCEL: u8 = 3;
+
+// The kind of a tick, the last kind there is.
+pub const TICK: u8 = 4;
+
+// How many bytes a begin has, the longest record.
+pub const BEGIN_BYTES: usize = 42;
+
+// How many bytes any other record has, and every record starts with.
+pub const HEAD_BYTES: usize = 4;
+
+// The first byte of every record.
+pub const FIRST_MARK: u8 = 0x4C;
+
+// The second byte of every record.
+pub const SECOND_MARK: u8 = 0x34;
+
+// The place of the kind in a record's bytes.
+pub const KIND: usize = 2;
+
+// The place of the thread.
+pub const THREAD: usize = 3;
+
+// The place of a begin's parts byte.
+pub const PARTS: usize = 4;
+
+// The place of the thread a begin sends to.
+pub const TARGET: usize = 5;
+
+// The place of the thread a begin receives from.
+pub const PARTNER: usize = 6;
+
+// The place of the number of words a begin sends.
+pub const COUNT: usize = 7;
+
+// The place of a begin's time code for sending.
+pub const SEND_TIME: usize = 8;
+
+// The place of a begin's time code for receiving.
+pub const RECEIVE_TIME: usize = 9;
+
+// The place of the first of a begin's eight words.
+pub const FIRST_WORD: usize = 10;
+
+// The refusal of a record that is unlawful, cut short, or longer than the bytes it is to be written to.
+pub const BAD_RECORD: u8 = 12;
+
+// How many bytes a record of a kind has.
+pub fn record_length(kind: u8) -> usize
+    ensures { λ r. ⌜ r ≡ recordLength kind ⌝ }
+{
+    if kind == BEGIN {
+        return BEGIN_BYTES;
+    }
+    HEAD_BYTES
+}
+
+// The rules of every record that its first four bytes decide.
+fn lawful_head(first: bool, bytes: &[u8]) -> bool
+    requires { ⌜ 4 ≤ length (now bytes) ⌝ }
+    ensures { λ r. ⌜ r ≡ lawfulHead first (now (bytes .entry)) ⌝ }
+{
+    let kind = bytes[KIND];
+    (bytes[0] == FIRST_MARK)
+        & (bytes[1] == SECOND_MARK)
+        & (kind <= TICK)
+        & (first == (kind == TABLE))
+        & (!(kind == TICK) | (bytes[THREAD] == 0))
+}
+
+// The bytes start with a lawful record, which is the first of its schedule or a later one.
+pub fn is_lawful(first: bool, bytes: &[u8]) -> bool
+    ensures { λ r. ⌜ r ≡ lawful first (front (now (bytes .entry))) ⌝ }
+{
+    if bytes.len() < HEAD_BYTES {
+        return false;
+    }
+    if !lawful_head(first, bytes) {
+        return false;
+    }
+    if bytes[KIND] != BEGIN {
+        return true;
+    }
+    if bytes.len() < BEGIN_BYTES {
+        return false;
+    }
+    begin_bytes::lawful_begin(bytes)
+}
+
+// The operation of a begin.
+pub fn operation_at(bytes: &[u8]) -> Operation
+    requires { ⌜ 42 ≤ length (now bytes) ⌝ }
+    ensures { λ r. ⌜ r ≡ operationOf (now (bytes .entry)) ⌝ }
+{
+    let words = begin_bytes::words_at(bytes);
+    let send = SendPart {
+        present: begin_bytes::send_bit(bytes[PARTS]),
+        target: bytes[TARGET],
+        count: bytes[COUNT],
+        time: bytes[SEND_TIME],
+        words: words,
+    };
+    let receive = begin_bytes::receive_at(bytes);
+    Operation {
+        send: send,
+        receive: receive,
+    }
+}
+
+// A record without an operation.
+fn bare_record(kind: u8, thread: u8) -> Record
+    ensures { λ r. ⌜ r ≡ record { kind = kind; thread = thread; op = noOperation } ⌝ }
+{
+    let send = SendPart {
+        present: false,
+        target: 0,
+        count: 0,
+        time: 0,
+        words: [0; 8],
+    };
+    let op = Operation {
+        send: send,
+        receive: Receive::Absent,
+    };
+    Record {
+        kind: kind,
+        thread: thread,
+        op: op,
+    }
+}
+
+// The record at the front of the bytes, which is the first of its schedule or a later one; refused, one that is all zero.
+pub fn read(first: bool, bytes: &[u8]) -> Decoded
+    ensures { λ r. ⌜ DecodePromise first (now (bytes .entry)) (r .answer) (r .item) ⌝ }
+{
+    if !is_lawful(first, bytes) {
+        let nothing = bare_record(0, 0);
+        return Decoded {
+            answer: Answer::Refused(BAD_RECORD),
+            item: nothing,
+        };
+    }
+    let kind = bytes[KIND];
+    let thread = bytes[THREAD];
+    if kind != BEGIN {
+        let item = bare_record(kind, thread);
+        return Decoded {
+            answer: Answer::Accepted,
+            item: item,
+        };
+    }
+    let op = operation_at(bytes);
+    let item = Record {
+        kind: kind,
+        thread: thread,
+        op: op,
+    };
+    Decoded {
+        answer: Answer::Accepted,
+        item: item,
+    }
+}

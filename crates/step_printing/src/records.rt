@@ -1,0 +1,174 @@
+// The loop over the records, which are read through one buffer.
+ghost use mathlib.Core.Path.{_≡_};
+ghost use Prim.Native.Nat.{_≤_, _<_};
+ghost use lib.ListN.{length};
+use crate::answers::print_answer;
+use crate::answers::print_bad;
+use crate::answers::print_made;
+use crate::fields::print_thread;
+use model::Answer;
+use model::Record;
+use model::Returned;
+use model::Table;
+use reading::BEGIN_BYTES;
+
+// No schedule is followed past this byte, so that the count of bytes cannot overflow.
+const LAST_BYTE: u64 = u64::MAX - BEGIN_BYTES as u64;
+
+// A slice of the buffer: the bytes from start to end.
+struct Span {
+    start: usize,
+    end: usize,
+}
+
+// A record, and how many bytes it has; refused, none, and the number.
+struct Taken {
+    item: Record,
+    length: usize,
+    refusal: u8,
+}
+
+// The bytes not yet used, after more are read where the buffer's end may cut a record.
+fn unread(input: i32, buffer: &mut [u8], left: Span) -> Span
+    requires { ⌜ (left .start ≤ left .end) × (left .end ≤ length (now buffer)) ⌝ }
+    ensures { λ _. ⌜ length (now (buffer .exit)) ≡ length (now (buffer .entry)) ⌝ }
+    ensures { λ r. ⌜ (r .start ≤ r .end) × (r .end ≤ length (now (buffer .exit))) ⌝ }
+{
+    let start = left.start;
+    let end = left.end;
+    if BEGIN_BYTES <= end - start {
+        return left;
+    }
+    // Only the input's end leaves room in the buffer.
+    if end < buffer.len() {
+        return left;
+    }
+    let filled = refill::refill(input, buffer, start, end);
+    Span {
+        start: 0,
+        end: filled,
+    }
+}
+
+// Prints the lines of all threads.
+fn print_threads(table: Table, store: &[u32]) {
+    let n = table.n;
+    let mut x: u8 = 0;
+    while x < n {
+        let i = x as usize;
+        // Never so, for a table has at most 32 threads: no contract here says that, so the test keeps i within the array.
+        if 32 <= i {
+            return;
+        }
+        let thread = table.threads[i];
+        print_thread(x, thread, store);
+        x += 1;
+    }
+}
+
+// The call that a record after the first asks for.
+fn call(table: Table, item: Record, store: &mut [u32]) -> Returned {
+    let kind = item.kind;
+    if kind == reading::BEGIN {
+        return engine::begin(table, item.thread, item.op, store);
+    }
+    if kind == reading::STEP {
+        return engine::step(table, item.thread, store);
+    }
+    if kind == reading::CANCEL {
+        return engine::cancel(table, item.thread);
+    }
+    engine::tick(table)
+}
+
+// Reads the record at the front of the bytes, told whether it is the first.
+fn take(first: bool, bytes: &[u8]) -> Taken
+    ensures { λ r. ⌜ r .length ≤ length (now (bytes .entry)) ⌝ }
+    ensures { λ r. ⌜ r .length ≤ 42 ⌝ }
+{
+    let decoded = reading::read(first, bytes);
+    let answer = decoded.answer;
+    let item = decoded.item;
+    if let Answer::Refused(number) = answer {
+        return Taken {
+            item: item,
+            length: 0,
+            refusal: number,
+        };
+    }
+    let length = reading::record_length(item.kind);
+    Taken {
+        item: item,
+        length: length,
+        refusal: 0,
+    }
+}
+
+// Follows the records after the first, which stood before a slice of the buffer.
+fn follow_rest(input: i32, buffer: &mut [u8], rest: Span, made: Table, store: &mut [u32])
+    requires { ⌜ (rest .start ≤ rest .end) × (rest .end ≤ length (now buffer)) ⌝ }
+    requires { ⌜ 0 < rest .start ⌝ }
+{
+    let mut table = made;
+    let mut left = rest;
+    let mut place: u64 = 1;
+    let mut byte = rest.start as u64;
+    while byte < LAST_BYTE {
+        left = unread(input, buffer, left);
+        let start = left.start;
+        let end = left.end;
+        if start == end {
+            return;
+        }
+        let taken = take(false, &buffer[start..end]);
+        let length = taken.length;
+        if length == 0 {
+            print_bad(taken.refusal, byte);
+            return;
+        }
+        let returned = call(table, taken.item, store);
+        let answer = returned.answer;
+        table = returned.table;
+        print_answer(place, answer);
+        print_threads(table, store);
+        left.start = start + length;
+        byte += length as u64;
+        place += 1;
+    }
+}
+
+// The words of the largest table's store, all zero.
+fn zero_store() -> [u32; 256]
+    ensures { λ r. ⌜ 256 ≡ length r ⌝ }
+{
+    [0; 256]
+}
+
+// Follows the schedule that a descriptor delivers, to its end or to a record that is refused.
+pub fn follow(input: i32) {
+    let mut space = io::large_buffer();
+    let buffer: &mut [u8] = &mut space;
+    let filled = refill::refill(input, buffer, 0, 0);
+    let taken = take(true, &buffer[..filled]);
+    let length = taken.length;
+    if length == 0 {
+        print_bad(taken.refusal, 0);
+        return;
+    }
+    let made = engine::make(taken.item.thread);
+    let answer = made.answer;
+    if let Answer::Refused(number) = answer {
+        print_bad(number, 0);
+        return;
+    }
+    let table = made.table;
+    let words = 8 * (table.n as usize);
+    let mut store = zero_store();
+    print_made();
+    print_threads(table, &store[0..words]);
+    let rest = Span {
+        start: length,
+        end: filled,
+    };
+    follow_rest(input, buffer, rest, table, &mut store[0..words]);
+}
