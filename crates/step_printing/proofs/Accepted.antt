@@ -20,8 +20,8 @@ use Rattle.model.specs.Promise.{makeAnswer, MakePromise}
 use Rattle.model.proofs.Answer.{the-type}
 use Rattle.model.proofs.Making.{made-new}
 use Rattle.laws.proofs.Rows.{none-holds}
-use Rattle.core.proofs.Kept.{new-sized}
-use Rattle.reading.proofs.Fronts.{front-kind, lawful-long}
+use Rattle.laws.proofs.Refusals.{making-accepted}
+use Rattle.laws.proofs.Schedule.{front-kind, lawful-long}
 
 -- the cases of an answer, by their numbers, but for the refusal, which is 0
 abbrev pub others : List ℕ
@@ -66,5 +66,5 @@ record-whole first bytes a item promise other =
 pub made-size : (n : ℕ) (a : Answer) (made : Table) → MakePromise n a made → Accepts a → made .n ≤ 32
 unfolding makeAnswer newTable
 made-size n a made promise other =
-    let (some, few) = new-sized n (no-ground a (makeRefusal n) accepted (promise .answers) other) in
+    let (some, few) = making-accepted n (no-ground a (makeRefusal n) accepted (promise .answers) other) in
     rw (promise .makes, made-new n some few) few
