@@ -13,10 +13,8 @@ use Rattle.model.specs.Lists.{implies, allOf}
 use Rattle.model.specs.RecordBytes.{tableKind, beginKind, tickKind, recordLength, byte, kindByte, countByte, wordAt, lawfulBegin, lawful}
 use Rattle.model.specs.Decoding.{operationOf, front}
 use Rattle.model.proofs.Laws.{by, and-left, all-of-read}
--- those who cite the laws below find these beside them
-use Rattle.laws.proofs.Schedule.{front-kind, lawful-long}
 use Rattle.laws.proofs.Below.{up-to-alike, all-below-alike}
-use Rattle.laws.proofs.Schedule.{record-begin, record-other, front-byte, head-byte, front-thread}
+use Rattle.laws.proofs.Schedule.{front-kind, lawful-long, record-begin, record-other, front-byte, head-byte, front-thread}
 use Rattle.reading.specs.Heads.{lawfulHead}
 use Rattle.reading.proofs.Begins.{wordLawful}
 
