@@ -31,7 +31,7 @@ part-result-end : tie.Need-part-result-end
 part-result-end c = search needs
 
 returns : tie.Need-returns
-returns c = first-there _ _ _ (c .before .before .before .lesser .ensures) (c .before .before .lesser2 .ensures) (c .before .lesser3 .ensures)
+returns c = first-there _ _ (c .before .before .before .before .before .args .count) (c .before .before .before .lesser .ensures) (c .before .before .lesser2 .ensures) (c .before .lesser3 .ensures)
 
 pub first-words-spec : {M : Type 1} → statement M
 first-words-spec =
