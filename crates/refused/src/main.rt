@@ -1,77 +1,101 @@
-// Tries every public call that takes a table on tables that are refused, and prints the answers; then on odd tables that are accepted.
-mod accepted;
-mod clauses;
-mod numbers;
+// Tries the public calls on the cases of the files that its arguments name, and prints what each answers and changes.
+ghost use Prim.Native.Nat.{_≤_};
+ghost use lib.ListN.{length};
 
-use attempts::lines::show;
-use attempts::print::answer;
-use attempts::print::number;
-use attempts::print::text;
-use cases::edits::with_queue;
-use cases::tables::three;
-use cases::wild::wild;
+mod calls;
+mod lines;
+mod same;
+mod tables;
+mod tries;
 
-// A new table of n threads.
-fn new_line(n: u8) {
-    text(b"N ");
-    number(n);
-    show(b"", core::new_table(n));
+use lines::Line;
+use model::Table;
+
+// The table after a line that makes one, or sets a field of thread x.
+fn table_after(table: Table, line: Line, x: usize) -> Table {
+    let command = line.command;
+    let numbers = line.numbers;
+    if command == lines::NEW {
+        return core::new_table(numbers[1]);
+    }
+    if command == lines::WILD {
+        return tables::wild(numbers[1], numbers[2]);
+    }
+    if command == lines::BEGIN {
+        return tries::begun(table, line);
+    }
+    if 32 <= x {
+        return table;
+    }
+    let mut next = table;
+    if command == lines::FRESH {
+        let new = core::new_table(1);
+        next.threads[x] = new.threads[0];
+        return next;
+    }
+    let thread = next.threads[x];
+    next.threads[x] = tables::changed(thread, line);
+    next
 }
 
-// A table of n threads with all flags, of which every byte is v.
-fn wild_line(n: u8, v: u8) {
-    text(b"N ");
-    number(n);
-    text(b", every byte ");
-    number(v);
-    show(b"", wild(n, v));
+// Whether a line only prints: a comment, a heading, a case's name or an empty line; then it is printed.
+fn is_printed(bytes: &[u8], line: Line) -> bool {
+    let command = line.command;
+    if bytes.len() == 0 {
+        calls::print(b"\n");
+        return true;
+    }
+    if command == lines::COMMENT {
+        return true;
+    }
+    if command == lines::HEADING {
+        lines::print_behind(bytes, line.end);
+        calls::print(b"\n");
+        return true;
+    }
+    if command == lines::CASE {
+        lines::print_behind(bytes, line.end);
+        return true;
+    }
+    false
 }
 
-// Tables of no thread or more than 32, and tables of which no number means anything.
-fn wild_tables() {
-    text(b"\nN 0 or above 32\n");
-    new_line(0);
-    new_line(33);
-    new_line(255);
-    wild_line(33, 255);
-    text(b"\nWild tables, all flags set\n");
-    wild_line(1, 255);
-    wild_line(32, 255);
-    wild_line(32, 32);
-    wild_line(32, 3);
-    wild_line(1, 0);
-    show(b"a queue of thread 255", with_queue(three(), 1, 255, 1));
-    show(b"a queue of length 255", with_queue(three(), 1, 0, 255));
+// Tries the cases of a file, line by line, up to one that cannot be read.
+fn try_cases(bytes: &[u8]) {
+    let mut table = core::new_table(1);
+    let mut start: usize = 0;
+    while start < bytes.len() {
+        let end = lines::find(bytes, start, b'\n');
+        let line = lines::read(&bytes[start..end]);
+        let shown = is_printed(&bytes[start..end], line);
+        if !shown {
+            if lines::BAD <= line.command {
+                calls::print(b"bad line\n");
+                return;
+            }
+            if tries::is_try(line.command) {
+                tries::tried(table, line);
+            } else {
+                let x = line.numbers[1] as usize;
+                table = table_after(table, line, x);
+            }
+        }
+        start = end + 1;
+    }
 }
 
-// Prints the answer to making a table, and the size of the table that is returned.
-fn make_line(n: u8) {
-    let made = engine::make(n);
-    let said = made.answer;
-    let table = made.table;
-    text(b"N ");
-    number(n);
-    text(b": ");
-    answer(said);
-    text(b", N ");
-    number(table.n);
-    text(b"\n");
-}
-
-// Making a table.
-fn makes() {
-    text(b"\nMaking a table\n");
-    make_line(0);
-    make_line(1);
-    make_line(32);
-    make_line(33);
-    make_line(255);
-}
-
+// The file of each argument.
 fn main() {
-    clauses::clauses();
-    numbers::numbers();
-    wild_tables();
-    accepted::accepted();
-    makes();
+    let mut word = io::buffer();
+    let mut space = io::large_buffer();
+    let count = os::arg_count();
+    let mut i: usize = 1;
+    while i < count {
+        let n = os::arg(i, &mut word);
+        let input = os::open_read(&word[..n]);
+        let filled = io::read_full(input, &mut space);
+        try_cases(&space[..filled]);
+        libc::close(input);
+        i += 1;
+    }
 }

@@ -127,3 +127,10 @@ pub fn print_answer(answer: Answer) {
     let end = put_answer(&mut line, 0, answer);
     io::write_all(STDOUT_FILENO, &line[..end]);
 }
+
+// Prints a code with its sign.
+pub fn print_signed(code: i32) {
+    let mut line = io::buffer();
+    let end = put_signed(&mut line, 0, code);
+    io::write_all(STDOUT_FILENO, &line[..end]);
+}

@@ -1,0 +1,131 @@
+// The commands that make a table, or set one field of one thread.
+use crate::lines;
+use crate::lines::Line;
+use model::Flags;
+use model::Operation;
+use model::Outcome;
+use model::Queue;
+use model::Table;
+use model::Thread;
+
+// The operation whose six numbers stand from a place of a line on, as they stand in a begin record; its words are 0.
+pub fn operation(numbers: [u8; 10], start: usize) -> Operation {
+    let mut bytes = [0u8; 42];
+    let mut i: usize = 0;
+    while i < 6 {
+        if start < 10 {
+            if start + i < 10 {
+                bytes[reading::PARTS + i] = numbers[start + i];
+            }
+        }
+        i += 1;
+    }
+    reading::operation_at(&bytes)
+}
+
+// Flags of which each is set where its number is not 0.
+fn flags_of(numbers: [u8; 10]) -> Flags {
+    Flags {
+        ipc: numbers[2] != 0,
+        send: numbers[3] != 0,
+        receiving: numbers[4] != 0,
+        poll: numbers[5] != 0,
+        mark: numbers[6] != 0,
+    }
+}
+
+// A queue of so many senders, the first of them as given and all others thread 0.
+fn queue_of(first: u8, len: u8) -> Queue {
+    let mut items = [0u8; 32];
+    items[0] = first;
+    Queue {
+        items: items,
+        len: len,
+    }
+}
+
+// An outcome of a code that is no failure.
+fn outcome_of(numbers: [u8; 10]) -> Outcome {
+    Outcome {
+        code: numbers[2] as i32,
+        source: numbers[3],
+        count: numbers[4],
+    }
+}
+
+// A thread with the field set that a line names.
+pub fn changed(thread: Thread, line: Line) -> Thread {
+    let command = line.command;
+    let numbers = line.numbers;
+    let value = numbers[2];
+    let mut next = thread;
+    if command == lines::FLAGS {
+        next.flags = flags_of(numbers);
+    }
+    if command == lines::PHASE {
+        next.phase = value;
+    }
+    if command == lines::OPERATION {
+        next.op = operation(numbers, 2);
+    }
+    if command == lines::LEFT {
+        next.left = line.last;
+    }
+    if command == lines::QUEUE {
+        next.queue = queue_of(value, numbers[3]);
+    }
+    if command == lines::OWNER {
+        next.owner = value;
+    }
+    if command == lines::OUTCOME {
+        next.outcome = outcome_of(numbers);
+    }
+    if command == lines::COPIED {
+        next.copied = value;
+    }
+    if command == lines::WAKING {
+        next.waking = value;
+    }
+    next
+}
+
+// A thread with all flags, v for every number of a byte and the largest for every other.
+fn wild_thread(v: u8) -> Thread {
+    let flags = Flags {
+        ipc: true,
+        send: true,
+        receiving: true,
+        poll: true,
+        mark: true,
+    };
+    let queue = Queue {
+        items: [v; 32],
+        len: v,
+    };
+    let outcome = Outcome {
+        code: 2147483647,
+        source: v,
+        count: v,
+    };
+    Thread {
+        flags: flags,
+        phase: v,
+        op: operation([0, 3, v, v, v, v, v, 0, 0, 0], 1),
+        left: 65535,
+        queue: queue,
+        owner: v,
+        outcome: outcome,
+        copied: v,
+        waking: v,
+    }
+}
+
+// A table of n such threads.
+pub fn wild(n: u8, v: u8) -> Table {
+    let h = wild_thread(v);
+    let threads = [h; 32];
+    Table {
+        n: n,
+        threads: threads,
+    }
+}
