@@ -26,7 +26,7 @@ module _ (t : Playback) (store before after : List ℕ) (left stop : ℕ) (room 
   bad-written d printed head input rest bad r long =
       printed-whole printed (omega (arith, room)) ∙ sym (reached-text head input bad t store rest r ∙ cond-false _ _ _ (not-empty rest (omega (arith, long))))
 
-  -- with none, how the trace ended
+  -- with none, how the schedule ended
   pub end-written : left ≡ 0 → Steady t → Printed (finalText (tally (t .table) store (t .records) (t .refused))) (longestText (t .table .n)) before after stop
       → (head input rest : List ℕ) (bad : Bool) → Reached head input bad t store rest → length rest ≡ left → take stop after ≡ bondtrace (head ++ input)
   unfolding tallyOf

@@ -191,7 +191,7 @@ pub starts-near : (t : Playback) → Starts t → t .place < 65536
 unfolding opened
 starts-near t starts = omega (arith, ap (λ (u : Playback). u .place) (starts .is))
 
--- what opening a trace returned is such a playback, if it is not refused
+-- what opening returned is such a playback, if it is not refused
 pub opening-starts : (bytes : List ℕ) (t : Playback) → openRefusal bytes ≡ 0 → t ≡ opened (openSize bytes) → Starts t
 opening-starts bytes t accepted is = by (lawful true (front bytes))
     (λ good. record {

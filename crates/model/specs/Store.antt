@@ -1,4 +1,4 @@
--- Document 01, "The table": the word store. "a delivery writes into that part only"
+-- Document 01, "The table": the word store, and the eight words of each thread in it.
 use mathlib.Core.List.{List}
 use Prim.Native.Nat.{ℕ, _+_, _*_}
 use lib.ListN.{getD, set, take, drop, replicate}

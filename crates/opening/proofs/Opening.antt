@@ -1,4 +1,4 @@
--- The table record: whether it is refused, how large a table it makes, and that a trace behind it can go on.
+-- The table record: whether it is refused, how large a table it makes, and that the playback can go on from there.
 use mathlib.Core.Path.{_≡_, refl, sym, ap}
 use mathlib.Core.Logic.{_≢_}
 use mathlib.Core.Bool.{true, false}
@@ -35,7 +35,7 @@ module _ (input : List ℕ) where
   refused-size zero is d = absurd (d refl)
   refused-size (suc g) is d = rw (sym is) refl
 
--- a trace behind a table record that is not refused can go on
+-- the playback of a table record that is not refused can go on
 pub opened-steady : (n : ℕ) → makeRefusal n ≡ 0 → Steady (opened n)
 unfolding opened
 opened-steady n made = record { checked = new-checked n made; fewer = omega arith; counted = omega arith }

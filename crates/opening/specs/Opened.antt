@@ -21,7 +21,7 @@ openSize input = unless (openRefusal input) (λ g. 0) (threadByte input)
 unfoldable pub opened : ℕ → Playback
 opened n = record { table = newTable n; records = 1; refused = 0; place = 4 }
 
--- a trace that can go on: its table has passed the check, or was left by calls that started from one that had, and no count is ahead of the bytes
+-- a playback that can go on: its table has passed the check, or was left by calls that started from one that had, and no count is ahead of the bytes
 pub record Steady (t : Playback) : Type 0 where
   pub checked : Checked (t .table)
   pub fewer : t .refused ≤ t .records

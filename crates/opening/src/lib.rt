@@ -5,7 +5,7 @@ ghost use lib.ListN.{length};
 ghost use Rattle.opening.specs.Opened.{openSize, openRefusal, opened, Steady};
 use model::Table;
 
-// How far a trace is played: the table, how many records were read and calls refused, and the byte at which the next record starts.
+// How far a schedule is played: the table, how many records were read and calls refused, and the byte at which the next record starts.
 pub struct Playback {
     pub table: Table,
     pub records: u64,
@@ -13,7 +13,7 @@ pub struct Playback {
     pub place: u64,
 }
 
-// A trace of which only the table record is played, and the number by which that is refused, or 0.
+// A playback of the table record alone, and the number by which that is refused, or 0.
 pub struct Opened {
     pub number: u8,
     pub playback: Playback,

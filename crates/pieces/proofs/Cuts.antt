@@ -20,7 +20,7 @@ module _ (more : List ℕ) where
       let same : front (input ++ more) ≡ front input = front-stays input (whole-if-lawful false input e) more in
       rw (same, behind-stays input more) at (played-more p (input ++ more) (rw same e))
 
-  -- where playing met an unlawful record, what comes in changes nothing
+  -- where playing stopped at an unlawful record, what comes in changes nothing
   pub bad-stays : (p : Tally) (input : List ℕ) → playedOn p input .bad ≡ true → playedOn p (input ++ more) ≡ playedOn p input
   unfolding ahead
   bad-stays = of-all-played (λ p input q. q .bad ≡ true → playedOn p (input ++ more) ≡ q)
@@ -28,7 +28,7 @@ module _ (more : List ℕ) where
       ∙ λ i. record { tally = p; taken = 0; bad = (whole-stays input whole more ∙ sym whole) i })
       (λ p input q e h bad. one-before-more p input e ∙ ap (ahead (length (front input))) (h bad))
 
-  -- where it met none, it goes on with what was left and what comes in
+  -- where it did not, it goes on with what was left and what comes in
   pub goes-on : (p : Tally) (input : List ℕ) → playedOn p input .bad ≡ false
       → playedOn p (input ++ more) ≡ ahead (playedOn p input .taken) (playedOn (playedOn p input .tally) (drop (playedOn p input .taken) input ++ more))
   unfolding ahead

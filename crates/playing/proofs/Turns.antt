@@ -1,4 +1,4 @@
--- The loop that plays a trace: what holds at each turn, and that each way through a turn keeps it.
+-- The loop that plays a schedule on: what holds at each turn, and that each way through a turn keeps it.
 use mathlib.Core.Path.{_≡_, refl, sym, ap, _∙_, subst}
 use mathlib.Core.Logic.{_≢_}
 use mathlib.Core.Bool.{Bool, true, false}
@@ -169,7 +169,7 @@ module _ {from : Playback} {store₀ bytes : List ℕ} {n : ℕ} {store : List �
         stops = tells ∙ ap wholeRecord (left-there bytes at) ∙ ap (λ (q : Progress). q .bad) (sym ends);
       }
 
-  -- and the trace can go on
+  -- and the playback can go on
   pub goes-further : Playable from store₀ (length bytes) → n ≡ from .table .n → (place : ℕ) → place ≡ from .place + at → Carries from (length bytes) (record { table = now; records = records; refused = refused; place = place }) store
   goes-further was sized place there = record {
     steady = record { checked = G .runnable .checked; fewer = G .fewer; counted = omega (arith, G .counted, was .steady .counted, there) };

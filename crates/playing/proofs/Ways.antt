@@ -1,4 +1,4 @@
--- The ways through a turn of a trace, by the record's kind and the code's tests: which calls may run, and what is played.
+-- The ways through a turn of the loop, by the record's kind and the code's tests: which calls may run, and what is played.
 use mathlib.Core.Path.{_≡_, sym, ap, _∙_, subst}
 use mathlib.Core.Logic.{_≢_}
 use mathlib.Core.Bool.{true, false, not, cond}

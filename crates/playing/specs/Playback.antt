@@ -1,4 +1,4 @@
--- What playing a trace on relies on, and what it promises.
+-- What playing a schedule on relies on, and what it promises.
 use mathlib.Core.Path.{_≡_}
 use mathlib.Core.Bool.{Bool}
 use mathlib.Core.List.{List}
@@ -9,7 +9,7 @@ use Rattle.pieces.specs.Playing.{playedOn}
 use Rattle.opening.specs.Opened.{Steady}
 use Rattle.opening.specs.declared.Playback.{Playback}
 
--- the table, the store and the counts of a trace
+-- the table, the store and the counts of a playback
 unfoldable pub tallyOf : Playback → List ℕ → Tally
 tallyOf t store = tally (t .table) store (t .records) (t .refused)
 
@@ -19,13 +19,13 @@ pub record Playable (t : Playback) (store : List ℕ) (bytes : ℕ) : Type 0 whe
   pub words : length store ≡ 8 * t .table .n
   pub room : t .place + bytes < 18446744073709551616
 
--- what playing promises of the trace and the store afterwards
+-- what playing promises of the playback and the store afterwards
 pub record PlayPromise (from : Playback) (store input : List ℕ) (to : Playback) (after : List ℕ) (bad : Bool) : Type 0 where
   pub plays : tallyOf to after ≡ playedOn (tallyOf from store) input .tally
   pub takes : to .place ≡ from .place + playedOn (tallyOf from store) input .taken
   pub stops : bad ≡ playedOn (tallyOf from store) input .bad
 
--- what else is known of a trace that was played, and of its store: it can go on, it came no further than the bytes, and it has as many threads
+-- what else is known of a playback and its store: it can go on, it came no further than the bytes, and it has as many threads
 pub record Carries (from : Playback) (bytes : ℕ) (to : Playback) (after : List ℕ) : Type 0 where
   pub steady : Steady to
   pub words : length after ≡ 8 * to .table .n

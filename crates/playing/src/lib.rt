@@ -1,4 +1,4 @@
-// A trace that goes on: the records of a schedule are played as their bytes come in, from a table that needs no check.
+// A schedule is played on: its records, as their bytes come in, from a table that needs no check.
 ghost use mathlib.Core.Path.{_≡_};
 ghost use lib.ListN.{length};
 ghost use Rattle.pieces.specs.Playing.{wholeRecord};

@@ -67,7 +67,7 @@ pub fn print(bytes: &[u8]) {
 }
 
 // Prints a number.
-fn print_number(n: u8) {
+pub fn print_number(n: u8) {
     io::print_decimal(STDOUT_FILENO, n as u64);
 }
 
@@ -176,36 +176,41 @@ pub fn others(table: Table, given: Arguments) {
     report(table, given.records);
 }
 
-// A store of which each word is the number of its place.
-fn counted_store() -> [u32; 264]
+// A store of the longest length in which the first three words of thread 1 and the first and last of thread 31 are told apart.
+fn marked_store() -> [u32; 264]
     ensures { λ r. ⌜ 264 ≡ length r ⌝ }
 {
-    let mut store = [0u32; 264];
-    let mut i: usize = 0;
-    while i < 264 {
-        store[i] = i as u32;
-        i += 1;
-    }
+    let mut store = [WORD; 264];
+    store[8] = 81;
+    store[9] = 82;
+    store[10] = 83;
+    store[248] = 311;
+    store[255] = 318;
     store
 }
 
-// Prints the words that the outcome call hands back of a store in which each word is the number of its place, and the first records that a report fills.
+// Prints a record of a report.
+fn print_record(record: Outcome) {
+    print(b", record ");
+    print_outcome(record);
+}
+
+// Prints the words that the outcome call hands back of that store, and the first records that a report fills.
 pub fn values(table: Table, x: u8) {
-    let store = counted_store();
+    let store = marked_store();
     let n = table.n as usize;
     let k = lesser(8 * n, WORDS);
     let words = outcomes::outcome_words(table, x, &store[0..k]);
     let mut line = io::buffer();
     let end = text::put_words(&mut line, 0, words);
+    let stop = lesser(end, line.len());
     print(b": words");
-    io::write_all(STDOUT_FILENO, &line[..end]);
+    io::write_all(STDOUT_FILENO, &line[0..stop]);
     let record = blank();
     let filled = fill(table, [record; 33], lesser(n, RECORDS));
     let records = filled.records;
-    let mut i: usize = 0;
-    while i < 4 {
-        print(b", record ");
-        print_outcome(records[i]);
-        i += 1;
-    }
+    print_record(records[0]);
+    print_record(records[1]);
+    print_record(records[2]);
+    print_record(records[3]);
 }

@@ -1,6 +1,4 @@
-// Tries the public calls on the cases of the files that its arguments name, and prints what each answers and changes.
-ghost use Prim.Native.Nat.{_≤_};
-ghost use lib.ListN.{length};
+// Tries the public calls on the cases of the file that its argument names, and prints what each answers and changes.
 
 mod calls;
 mod lines;
@@ -84,18 +82,13 @@ fn try_cases(bytes: &[u8]) {
     }
 }
 
-// The file of each argument.
+// The file that its argument names.
 fn main() {
     let mut word = io::buffer();
     let mut space = io::large_buffer();
-    let count = os::arg_count();
-    let mut i: usize = 1;
-    while i < count {
-        let n = os::arg(i, &mut word);
-        let input = os::open_read(&word[..n]);
-        let filled = io::read_full(input, &mut space);
-        try_cases(&space[..filled]);
-        libc::close(input);
-        i += 1;
-    }
+    let n = os::arg(1, &mut word);
+    let input = os::open_read(&word[..n]);
+    let filled = io::read_full(input, &mut space);
+    try_cases(&space[..filled]);
+    libc::close(input);
 }

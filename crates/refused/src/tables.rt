@@ -8,18 +8,22 @@ use model::Queue;
 use model::Table;
 use model::Thread;
 
-// The operation whose six numbers stand from a place of a line on, as they stand in a begin record; its words are 0.
-pub fn operation(numbers: [u8; 10], start: usize) -> Operation {
+// The operation with these numbers in its begin record; its words are 0.
+pub fn operation(
+    parts: u8,
+    target: u8,
+    partner: u8,
+    count: u8,
+    send_time: u8,
+    receive_time: u8,
+) -> Operation {
     let mut bytes = [0u8; 42];
-    let mut i: usize = 0;
-    while i < 6 {
-        if start < 10 {
-            if start + i < 10 {
-                bytes[reading::PARTS + i] = numbers[start + i];
-            }
-        }
-        i += 1;
-    }
+    bytes[reading::PARTS] = parts;
+    bytes[reading::TARGET] = target;
+    bytes[reading::PARTNER] = partner;
+    bytes[reading::COUNT] = count;
+    bytes[reading::SEND_TIME] = send_time;
+    bytes[reading::RECEIVE_TIME] = receive_time;
     reading::operation_at(&bytes)
 }
 
@@ -44,10 +48,17 @@ fn queue_of(first: u8, len: u8) -> Queue {
     }
 }
 
-// An outcome of a code that is no failure.
+// An outcome with code 0, 1, 2 or, for any other number, 3, which is none of document 01.
 fn outcome_of(numbers: [u8; 10]) -> Outcome {
+    let number = numbers[2];
+    let code = match number {
+        0 => 0,
+        1 => 1,
+        2 => 2,
+        _ => 3,
+    };
     Outcome {
-        code: numbers[2] as i32,
+        code: code,
         source: numbers[3],
         count: numbers[4],
     }
@@ -66,7 +77,14 @@ pub fn changed(thread: Thread, line: Line) -> Thread {
         next.phase = value;
     }
     if command == lines::OPERATION {
-        next.op = operation(numbers, 2);
+        next.op = operation(
+            value,
+            numbers[3],
+            numbers[4],
+            numbers[5],
+            numbers[6],
+            numbers[7],
+        );
     }
     if command == lines::LEFT {
         next.left = line.last;
@@ -110,7 +128,7 @@ fn wild_thread(v: u8) -> Thread {
     Thread {
         flags: flags,
         phase: v,
-        op: operation([0, 3, v, v, v, v, v, 0, 0, 0], 1),
+        op: operation(3, v, v, v, v, v),
         left: 65535,
         queue: queue,
         owner: v,

@@ -21,24 +21,40 @@ fn arguments(table: Table, line: Line) -> Arguments {
     let numbers = line.numbers;
     let command = line.command;
     let n = table.n as usize;
+    let last = line.last;
+    let second = numbers[2];
     let mut given = Arguments {
         beginner: numbers[1],
-        op: operation([0, 6, 0, 0, 0, 0, 15, 0, 0, 0], 1),
+        op: operation(6, 0, 0, 0, 0, 15),
         thread: numbers[2],
         words: 8 * n,
         records: n,
     };
     if command == lines::LENGTHS {
-        given.words = line.last as usize;
+        given.words = last as usize;
     }
     if command == lines::ALL {
         given.thread = numbers[1];
-        given.records = numbers[2] as usize;
-        given.op = operation(numbers, 3);
-        given.words = line.last as usize;
+        given.records = second as usize;
+        given.op = operation(
+            numbers[3],
+            numbers[4],
+            numbers[5],
+            numbers[6],
+            numbers[7],
+            numbers[8],
+        );
+        given.words = last as usize;
     }
     if (command == lines::BEGINS) | (command == lines::BEGIN) {
-        given.op = operation(numbers, 2);
+        given.op = operation(
+            numbers[2],
+            numbers[3],
+            numbers[4],
+            numbers[5],
+            numbers[6],
+            numbers[7],
+        );
     }
     given
 }
@@ -62,25 +78,41 @@ fn made(n: u8) {
     io::print_decimal(STDOUT_FILENO, table.n as u64);
 }
 
-// Prints what writing a record into the first bytes of a buffer answers, and the whole buffer afterwards.
-fn written(first: bool, numbers: [u8; 10]) {
-    let item = Record {
-        kind: numbers[1],
-        thread: numbers[2],
-        op: operation(numbers, 4),
-    };
-    let mut bytes = [BYTE; 44];
-    let len = calls::lesser(numbers[3] as usize, 44);
-    let answer = writing::write(first, item, &mut bytes[..len]);
-    calls::print(b": ");
-    text::print_answer(answer);
-    calls::print(b", bytes");
+// Prints the bytes of a buffer as numbers, each behind a space.
+fn print_bytes(bytes: &[u8; 44]) {
     let mut i: usize = 0;
     while i < 44 {
         calls::print(b" ");
-        io::print_decimal(STDOUT_FILENO, bytes[i] as u64);
+        calls::print_number(bytes[i]);
         i += 1;
     }
+}
+
+// Prints what writing a record into the first bytes of a buffer answers, and the whole buffer afterwards.
+fn written(first: bool, numbers: [u8; 10]) {
+    let kind = numbers[1];
+    let thread = numbers[2];
+    let length = numbers[3];
+    let op = operation(
+        numbers[4],
+        numbers[5],
+        numbers[6],
+        numbers[7],
+        numbers[8],
+        numbers[9],
+    );
+    let item = Record {
+        kind: kind,
+        thread: thread,
+        op: op,
+    };
+    let mut bytes = [BYTE; 44];
+    let len = calls::lesser(length as usize, 44);
+    let answer = writing::write(first, item, &mut bytes[0..len]);
+    calls::print(b": ");
+    text::print_answer(answer);
+    calls::print(b", bytes");
+    print_bytes(&bytes);
 }
 
 // Tries the calls of a line on a table and ends the printed line.
@@ -99,7 +131,8 @@ pub fn tried(table: Table, line: Line) {
     }
     if command == lines::REPORTS {
         calls::print(b": report ");
-        calls::report(table, numbers[1] as usize);
+        let records = numbers[1];
+        calls::report(table, records as usize);
     }
     if command == lines::VALUES {
         calls::values(table, numbers[1]);

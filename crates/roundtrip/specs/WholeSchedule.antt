@@ -23,7 +23,7 @@ pub record ReadsBack (records : List Record) : Type 0 where
 abbrev pub ScheduleReadWritten : Type 0
 ScheduleReadWritten = (records : List Record) → AllFit records → LawfulRecords records → ReadsBack records
 
--- reading met no fault: the records read are lawful, and are written as the bytes that were read
+-- reading found no fault: the records read are lawful, and are written as the bytes that were read
 pub record Complete (bytes : List ℕ) (reading : Reading) : Type 0 where
   pub noFault : reading .fault ≡ none
   pub writes : encodeAll (reading .records) ≡ bytes
