@@ -15,8 +15,8 @@ unfoldable pub joins : ℕ → Operation → Bool
 joins n o = o .send .present && ltb (o .send .target) n
 
 -- the thread whose queue thread x joins, or x itself where it joins none
-unfoldable pub joinedPlace : ℕ → ℕ → Operation → ℕ
-joinedPlace n x o = cond (joins n o) (o .send .target) x
+unfoldable pub joinedThread : ℕ → ℕ → Operation → ℕ
+joinedThread n x o = cond (joins n o) (o .send .target) x
 
 -- that thread, which was r, afterwards
 unfoldable pub queueJoined : ℕ → ℕ → Operation → Thread → Thread

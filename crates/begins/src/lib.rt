@@ -5,7 +5,7 @@ ghost use Prim.Native.Nat.{_<_};
 ghost use Rattle.model.specs.Operations.{firstTime};
 ghost use Rattle.model.specs.Phases.{Phase, phaseNumber};
 ghost use Rattle.model.specs.Calls.{begunFlags, begun};
-ghost use Rattle.begins.specs.Begun.{joinedPlace, queueJoined, ownBegun, joins as Begun·joins};
+ghost use Rattle.begins.specs.Begun.{joinedThread, queueJoined, ownBegun, joins as Begun·joins};
 use model::Flags;
 use model::Operation;
 use model::Thread;
@@ -59,8 +59,8 @@ fn joins(n: u8, op: Operation) -> bool
 }
 
 // The thread whose queue a begin of x joins, or x itself where it joins none.
-pub fn joined_place(n: u8, x: u8, op: Operation) -> u8
-    ensures { λ r. ⌜ r ≡ joinedPlace n x op ⌝ }
+pub fn joined_thread(n: u8, x: u8, op: Operation) -> u8
+    ensures { λ r. ⌜ r ≡ joinedThread n x op ⌝ }
 {
     if joins(n, op) {
         let send = op.send;

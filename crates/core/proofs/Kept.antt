@@ -11,7 +11,7 @@ use Rattle.model.specs.Threads.{newTable, at}
 use Rattle.model.specs.Locks.{lockFree}
 use Rattle.model.specs.WellFormed.{WellFormed, wellFormed}
 use Rattle.model.specs.Calls.{Call, begin, step, cancel, tick, State}
-use Rattle.model.specs.Refusals.{firstRefusal, unless, noThread, lockOwned, placeRows, beginRows, laterRows, refusal, makeRefusal}
+use Rattle.model.specs.Refusals.{firstRefusal, unless, noThread, lockOwned, argumentRows, beginRows, laterRows, refusal, makeRefusal}
 use Rattle.model.specs.Promise.{next, Promise, madeTable}
 use Rattle.model.proofs.Laws.{_and_}
 use Rattle.model.proofs.Tested.{well-formed-tested}
@@ -69,10 +69,10 @@ module _ (s : State) (formed : wellFormed (s .table) ≡ true) where
     module _ (fit : length (s .store) ≡ 8 * s .table .n) where
       -- a step is not refused
       pub step-accepted : refusal (step x) s ≡ 0
-      unfolding laterRows placeRows
-      step-accepted = later-refusal (step x) s formed ∙ rows-passed (placeRows (s .table) x (length (s .store))) [] (place-passed (s .table) x (length (s .store)) below fit) ∙ first-none
+      unfolding laterRows argumentRows
+      step-accepted = later-refusal (step x) s formed ∙ rows-passed (argumentRows (s .table) x (length (s .store))) [] (place-passed (s .table) x (length (s .store)) below fit) ∙ first-none
 
       -- a begin is refused by the rows on the thread and its operation alone
       pub begin-number : (o : Operation) → refusal (begin x o) s ≡ firstRefusal (beginRows (s .table) x o)
       unfolding laterRows
-      begin-number o = later-refusal (begin x o) s formed ∙ rows-passed (placeRows (s .table) x (length (s .store))) (beginRows (s .table) x o) (place-passed (s .table) x (length (s .store)) below fit)
+      begin-number o = later-refusal (begin x o) s formed ∙ rows-passed (argumentRows (s .table) x (length (s .store))) (beginRows (s .table) x o) (place-passed (s .table) x (length (s .store)) below fit)

@@ -24,7 +24,7 @@ use Rattle.model.specs.Queues.{joined}
 use Rattle.model.specs.Store.{zeroed}
 use Rattle.model.specs.WellFormed.{Shaped}
 use Rattle.model.specs.Calls.{begun, beginTable, cancelTable, cancelReply, ticked, tickTable, Call, begin, cancel, tick, State, acceptedReply, acceptedState}
-use Rattle.model.specs.Refusals.{rowsOf, refusal, tableRows, placeRows, beginRows, laterRows}
+use Rattle.model.specs.Refusals.{rowsOf, refusal, tableRows, argumentRows, beginRows, laterRows}
 use Rattle.model.specs.Promise.{state, Promise}
 use Rattle.model.proofs.Laws.{by, and-right}
 use Rattle.model.proofs.Table.{the-row}
@@ -34,7 +34,7 @@ use Rattle.laws.proofs.Refusals.{AcceptedBegin, accepted-table, accepted-begin,
 use Rattle.laws.proofs.Calls.{accepted-next, accepted-answer, begins-to-send, begins-to-receive, cancel-marks, cancel-marks-reply, cancel-nothing, cancel-nothing-reply}
 use Rattle.laws.proofs.Lists.{cond-true, cond-false}
 use Rattle.laws.proofs.Tables.{put-own}
-use Rattle.begins.specs.Begun.{joins, joinedPlace, queueJoined, ownBegun}
+use Rattle.begins.specs.Begun.{joins, joinedThread, queueJoined, ownBegun}
 use Rattle.formed.proofs.Shape.{shaped}
 use Rattle.formed.proofs.Neighbours.{quiet-in-idle, queue-room}
 use Rattle.invariant.proofs.Keeps.{found-formed}
@@ -114,8 +114,8 @@ module _ (x : ℕ) (o : Operation) (s : State) (e : refusal (begin x o) s ≡ 0)
           (promised (begins-is ∙ does _ ∙ ap (λ (u : Table). k (at u x)) (none-joined no-queue)))
 
       -- the promise
-      pub begin-leaves : j ≡ joinedPlace n x o → Promise (begin x o) s Accepted (state (put x h (put j g (s .table))) words)
-      unfolding joins joinedPlace queueJoined ownBegun
+      pub begin-leaves : j ≡ joinedThread n x o → Promise (begin x o) s Accepted (state (put x h (put j g (s .table))) words)
+      unfolding joins joinedThread queueJoined ownBegun
       begin-leaves place = by (o .send .present)
           (λ sends. by (ltb (o .send .target) n)
           (λ near. let joining : joins n o ≡ true = rw (sends, near) refl in
@@ -127,10 +127,10 @@ module _ (x : ℕ) (o : Operation) (s : State) (e : refusal (begin x o) s ≡ 0)
           (λ alone. begin-alone (λ r. begun o look r) (rw alone refl) (λ r. cond-false _ _ _ alone) (begin-receives alone h))
 
   -- the thread whose queue is joined
-  module _ (n : ℕ) (sized : s .table .n ≡ n) (j : ℕ) (is : j ≡ joinedPlace n x o) where
+  module _ (n : ℕ) (sized : s .table .n ≡ n) (j : ℕ) (is : j ≡ joinedThread n x o) where
     -- has a place in the array
     pub joined-in-array : j < 32
-    unfolding joins joinedPlace
+    unfolding joins joinedThread
     joined-in-array = rw is (by (o .send .present)
         (λ sends. by (ltb (o .send .target) n)
         (λ near. rw (sends, near) (target-place (omega (arith, ltb-true (o .send .target) n near, sized))))
@@ -139,7 +139,7 @@ module _ (x : ℕ) (o : Operation) (s : State) (e : refusal (begin x o) s ≡ 0)
 
     -- and room in its queue
     pub joined-room : Shaped (s .table) → joins n o ≡ true → at (s .table) j .queue .len < 32
-    unfolding joins joinedPlace
+    unfolding joins joinedThread
     joined-room whole joining = rw (is ∙ cond-true _ _ _ joining) (target-room whole (omega (arith, ltb-true (o .send .target) n (and-right (o .send .present) _ joining), sized)))
 
 -- ---- cancel
@@ -150,7 +150,7 @@ cancel-place x s e = omega (arith, accepted-cancel x s e .below, accepted-few (c
 module _ (x : ℕ) (t : Table) (e : refusal (cancel x) (state t []) ≡ 0) where
   -- the promise by the answer and the table that is left, whatever the store
   cancel-performed : (a : Answer) (after : Table) → said a ≡ replied (cancelReply x t) → after ≡ cancelTable x t → (store : List ℕ) → Promise (cancel x) (state t store) a (state after store)
-  unfolding acceptedReply acceptedState refusal rowsOf tableRows placeRows beginRows laterRows
+  unfolding acceptedReply acceptedState refusal rowsOf tableRows argumentRows beginRows laterRows
   cancel-performed a after says left store = performed (cancel x) (state t store) e a (state after store) says (ap (λ (u : Table). state u store) left)
 
   -- of a running operation: h is the thread with its mark
@@ -166,7 +166,7 @@ module _ (x : ℕ) (t : Table) (e : refusal (cancel x) (state t []) ≡ 0) where
 module _ (t : Table) where
   -- the promise by the table that is left, whatever the store
   pub tick-performed : refusal tick (state t []) ≡ 0 → (after : Table) → after ≡ tickTable t → (store : List ℕ) → Promise tick (state t store) Accepted (state after store)
-  unfolding acceptedReply acceptedState refusal rowsOf tableRows placeRows beginRows laterRows
+  unfolding acceptedReply acceptedState refusal rowsOf tableRows argumentRows beginRows laterRows
   tick-performed e after left store = performed tick (state t store) e Accepted (state after store) refl (ap (λ (u : Table). state u store) left)
 
   -- no thread is ticked yet

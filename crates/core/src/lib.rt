@@ -73,7 +73,7 @@ pub fn begin(table: Table, x: u8, op: Operation, store: &mut [u32]) -> Returned
 {
     words::zero_thread(store, x);
     let n = table.n;
-    let j = begins::joined_place(n, x, op) as usize;
+    let j = begins::joined_thread(n, x, op) as usize;
     let mut next = table;
     let other = next.threads[j];
     next.threads[j] = begins::join_queue(n, x, op, other);

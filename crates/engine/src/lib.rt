@@ -43,7 +43,7 @@ pub fn begin(table: Table, thread: u8, op: Operation, store: &mut [u32]) -> Retu
     if first != 0 {
         return refuse(first, table);
     }
-    let second = refusals::place_refusal(table.n, thread, store.len());
+    let second = refusals::argument_refusal(table.n, thread, store.len());
     if second != 0 {
         return refuse(second, table);
     }
@@ -64,7 +64,7 @@ pub fn step(table: Table, thread: u8, store: &mut [u32]) -> Returned
     if first != 0 {
         return refuse(first, table);
     }
-    let second = refusals::place_refusal(table.n, thread, store.len());
+    let second = refusals::argument_refusal(table.n, thread, store.len());
     if second != 0 {
         return refuse(second, table);
     }

@@ -11,7 +11,7 @@ use Rattle.model.specs.declared.Operation.{Operation}
 use Rattle.model.specs.declared.Table.{Table}
 use Rattle.model.specs.WellFormed.{wellFormed}
 use Rattle.model.specs.Calls.{Call, begin, State}
-use Rattle.model.specs.Refusals.{firstRefusal, badSize, notWellFormed, noThread, badLength, tableRows, placeRows, beginRows, laterRows, rowsOf, refusal, reportRefusal}
+use Rattle.model.specs.Refusals.{firstRefusal, badSize, notWellFormed, noThread, badLength, tableRows, argumentRows, beginRows, laterRows, rowsOf, refusal, reportRefusal}
 use Rattle.model.proofs.Laws.{_and_}
 use Rattle.model.proofs.Tested.{well-formed-told, formed-few}
 use Rattle.laws.proofs.Rows.{NoneHolds, numbered, none-holds, rows-passed, group-refuses, group-passes}
@@ -56,38 +56,38 @@ module _ (c : Call) (s : State) where
 
 -- ---- the rows on a thread's number and the length of a store
 -- they have numbers
-place-numbered : (t : Table) (x words : ℕ) → numbered (placeRows t x words) ≡ true
-unfolding placeRows noThread badLength
+place-numbered : (t : Table) (x words : ℕ) → numbered (argumentRows t x words) ≡ true
+unfolding argumentRows noThread badLength
 place-numbered t x words = refl
 
 module _ (t : Table) (x words : ℕ) where
-  module _ (g : ℕ) (e : g ≡ firstRefusal (placeRows t x words)) (z : g ≡ 0) where
+  module _ (g : ℕ) (e : g ≡ firstRefusal (argumentRows t x words)) (z : g ≡ 0) where
     -- where none holds, the thread is in the table
     pub place-below : x < t .n
-    unfolding placeRows noThread badLength
-    place-below = leb-false (t .n) x (none-holds (placeRows t x words) refl (sym e ∙ z) .0)
+    unfolding argumentRows noThread badLength
+    place-below = leb-false (t .n) x (none-holds (argumentRows t x words) refl (sym e ∙ z) .0)
 
     -- and the store has eight words for each thread
     pub place-store : words ≡ 8 * t .n
-    unfolding placeRows noThread badLength
-    place-store = eqb-true words (8 * t .n) (not-false (eqb words (8 * t .n)) (none-holds (placeRows t x words) refl (sym e ∙ z) .1 .0))
+    unfolding argumentRows noThread badLength
+    place-store = eqb-true words (8 * t .n) (not-false (eqb words (8 * t .n)) (none-holds (argumentRows t x words) refl (sym e ∙ z) .1 .0))
 
   -- of a thread of the table, and a store with eight words for each thread, none holds
-  pub place-passed : x < t .n → words ≡ 8 * t .n → NoneHolds (placeRows t x words)
-  unfolding placeRows noThread badLength
+  pub place-passed : x < t .n → words ≡ 8 * t .n → NoneHolds (argumentRows t x words)
+  unfolding argumentRows noThread badLength
   place-passed below fit = lt-leb (t .n) x below and ap not (eq-eqb words (8 * t .n) fit) and tt
 
 -- ---- the rows of a begin
 module _ (x : ℕ) (o : Operation) (s : State) where
   -- the rows on the place come first
-  pub place-before-begin : (g : ℕ) → g ≡ firstRefusal (placeRows (s .table) x (length (s .store))) → g ≢ 0 → g ≡ firstRefusal (laterRows (begin x o) s)
+  pub place-before-begin : (g : ℕ) → g ≡ firstRefusal (argumentRows (s .table) x (length (s .store))) → g ≢ 0 → g ≡ firstRefusal (laterRows (begin x o) s)
   unfolding laterRows
-  place-before-begin g e d = group-refuses (placeRows (s .table) x (length (s .store))) (beginRows (s .table) x o) g e d
+  place-before-begin g e d = group-refuses (argumentRows (s .table) x (length (s .store))) (beginRows (s .table) x o) g e d
 
   -- then those on the thread and the operation
-  pub begin-after-place : (f g : ℕ) → f ≡ firstRefusal (placeRows (s .table) x (length (s .store))) → f ≡ 0 → g ≡ firstRefusal (beginRows (s .table) x o) → g ≡ firstRefusal (laterRows (begin x o) s)
+  pub begin-after-place : (f g : ℕ) → f ≡ firstRefusal (argumentRows (s .table) x (length (s .store))) → f ≡ 0 → g ≡ firstRefusal (beginRows (s .table) x o) → g ≡ firstRefusal (laterRows (begin x o) s)
   unfolding laterRows
-  begin-after-place f g e z h = group-passes (placeRows (s .table) x (length (s .store))) (beginRows (s .table) x o) f g (place-numbered (s .table) x (length (s .store))) e z h
+  begin-after-place f g e z h = group-passes (argumentRows (s .table) x (length (s .store))) (beginRows (s .table) x o) f g (place-numbered (s .table) x (length (s .store))) e z h
 
 -- ---- the rows of a report
 module _ (t : Table) (records : ℕ) where

@@ -17,7 +17,7 @@ use Rattle.model.specs.Threads.{at}
 use Rattle.model.specs.Locks.{lockFree}
 use Rattle.model.specs.WellFormed.{sizeInRange, inPhase, sendInRange, receiveInRange, wellFormed}
 use Rattle.model.specs.Calls.{Call, begin, step, cancel, tick, State}
-use Rattle.model.specs.Refusals.{firstRefusal, badSize, notWellFormed, noThread, badLength, lockOwned, notIdle, neitherPart, withItself, noPartner, tooManyWords, badTime, rowsOf, refusal, makeRefusal, outcomeRefusal, tableRows, placeRows, beginRows, laterRows}
+use Rattle.model.specs.Refusals.{firstRefusal, badSize, notWellFormed, noThread, badLength, lockOwned, notIdle, neitherPart, withItself, noPartner, tooManyWords, badTime, rowsOf, refusal, makeRefusal, outcomeRefusal, tableRows, argumentRows, beginRows, laterRows}
 use Rattle.model.proofs.Laws.{implies-made, _and_, all-of-made}
 use Rattle.model.proofs.Numbers.{size-read, size-made}
 use Rattle.laws.proofs.Rows.{numbered, NoneHolds, none-holds}
@@ -27,7 +27,7 @@ use Rattle.laws.proofs.Lists.{or-left, or-right, second-fails}
 
 -- the rows of every call have numbers
 rows-numbered : (c : Call) (s : State) → numbered (rowsOf c s) ≡ true
-unfolding rowsOf tableRows placeRows beginRows laterRows badSize notWellFormed noThread badLength lockOwned notIdle neitherPart withItself noPartner tooManyWords badTime
+unfolding rowsOf tableRows argumentRows beginRows laterRows badSize notWellFormed noThread badLength lockOwned notIdle neitherPart withItself noPartner tooManyWords badTime
 rows-numbered (begin x o) s = refl
 rows-numbered (step x) s = refl
 rows-numbered (cancel x) s = refl
@@ -72,13 +72,13 @@ accepted-table c s e = not-false (wellFormed (s .table)) (second-row c s (accept
 
 -- a step that is not refused is of a thread of the table, and the store has its words
 pub accepted-step : (x : ℕ) (s : State) → refusal (step x) s ≡ 0 → AcceptedStep s x
-unfolding rowsOf tableRows placeRows laterRows noThread badLength
+unfolding rowsOf tableRows argumentRows laterRows noThread badLength
 accepted-step x s e = let (size, (formed, (below, (store, end)))) = accepted-rows (step x) s e in
     record { below = leb-false (s .table .n) x below; store = eqb-true (length (s .store)) (8 * s .table .n) (not-false (eqb (length (s .store)) (8 * s .table .n)) store) }
 
 -- the outcome call is refused as a step is
 pub outcome-as-step : (s : State) (x : ℕ) → outcomeRefusal s x ≡ refusal (step x) s
-unfolding outcomeRefusal refusal rowsOf tableRows placeRows laterRows
+unfolding outcomeRefusal refusal rowsOf tableRows argumentRows laterRows
 outcome-as-step s x = refl
 
 -- a cancel that is not refused is of a thread of the table, and its lock is free
@@ -102,7 +102,7 @@ receive-in-range n r time near = all-of-made _ (implies-made (hasReceive r) _ (�
 
 -- what a begin that is not refused has been tested for
 pub accepted-begin : (x : ℕ) (o : Operation) (s : State) → refusal (begin x o) s ≡ 0 → AcceptedBegin s x o
-unfolding rowsOf tableRows placeRows beginRows laterRows noThread badLength lockOwned notIdle neitherPart withItself noPartner tooManyWords badTime
+unfolding rowsOf tableRows argumentRows beginRows laterRows noThread badLength lockOwned notIdle neitherPart withItself noPartner tooManyWords badTime
 accepted-begin x o s e =
     let (size, (formed, (below, (store, (free, (inIdle, (part, (itself, (partner, (words, (time, end))))))))))) = accepted-rows (begin x o) s e in
     let toItself = o .send .present && eqb (o .send .target) x in

@@ -50,7 +50,7 @@ unfolding Calls.begunFlags Calls.begun Calls.beginTable Calls.cancelTable Calls.
 calls = 0
 
 unfoldable pub refusals : ℕ
-unfolding Refusals.firstRefusal Refusals.unless Refusals.badSize Refusals.notWellFormed Refusals.noThread Refusals.badLength Refusals.lockOwned Refusals.notIdle Refusals.neitherPart Refusals.withItself Refusals.noPartner Refusals.tooManyWords Refusals.badTime Refusals.tableRows Refusals.placeRows Refusals.beginRows Refusals.laterRows Refusals.rowsOf Refusals.refusal Refusals.makeRefusal Refusals.outcomeRefusal Refusals.reportRefusal
+unfolding Refusals.firstRefusal Refusals.unless Refusals.badSize Refusals.notWellFormed Refusals.noThread Refusals.badLength Refusals.lockOwned Refusals.notIdle Refusals.neitherPart Refusals.withItself Refusals.noPartner Refusals.tooManyWords Refusals.badTime Refusals.tableRows Refusals.argumentRows Refusals.beginRows Refusals.laterRows Refusals.rowsOf Refusals.refusal Refusals.makeRefusal Refusals.outcomeRefusal Refusals.reportRefusal
 refusals = 0
 
 unfoldable pub promises : ℕ

@@ -81,8 +81,8 @@ unfoldable pub tableRows : Table → List Row
 tableRows t = badSize (t .n) ∷ notWellFormed t ∷ []
 
 -- the rows on a thread's number and on the length of a word store
-unfoldable pub placeRows : Table → ℕ → ℕ → List Row
-placeRows t x words = noThread t x ∷ badLength (8 * t .n) words ∷ []
+unfoldable pub argumentRows : Table → ℕ → ℕ → List Row
+argumentRows t x words = noThread t x ∷ badLength (8 * t .n) words ∷ []
 
 -- the rows on a thread that begins and on its operation
 unfoldable pub beginRows : Table → ℕ → Operation → List Row
@@ -90,8 +90,8 @@ beginRows t x o = lockOwned t x ∷ notIdle t x ∷ neitherPart o ∷ withItself
 
 -- the rows of each call after those on the table
 unfoldable pub laterRows : Call → State → List Row
-laterRows (begin x o) s = placeRows (s .table) x (length (s .store)) ++ beginRows (s .table) x o
-laterRows (step x) s = placeRows (s .table) x (length (s .store))
+laterRows (begin x o) s = argumentRows (s .table) x (length (s .store)) ++ beginRows (s .table) x o
+laterRows (step x) s = argumentRows (s .table) x (length (s .store))
 laterRows (cancel x) s = noThread (s .table) x ∷ lockOwned (s .table) x ∷ []
 laterRows tick s = []
 
@@ -109,7 +109,7 @@ makeRefusal n = firstRefusal (badSize n ∷ [])
 
 -- the outcome of thread x
 unfoldable pub outcomeRefusal : State → ℕ → ℕ
-outcomeRefusal s x = firstRefusal (tableRows (s .table) ++ placeRows (s .table) x (length (s .store)))
+outcomeRefusal s x = firstRefusal (tableRows (s .table) ++ argumentRows (s .table) x (length (s .store)))
 
 -- a report into a slice of so many records
 unfoldable pub reportRefusal : Table → ℕ → ℕ

@@ -13,7 +13,7 @@ pub fn outcome(table: Table, thread: u8, store: &[u32]) -> OutcomeAnswer
     if first != 0 {
         return OutcomeAnswer::Refused(first);
     }
-    let second = refusals::place_refusal(table.n, thread, store.len());
+    let second = refusals::argument_refusal(table.n, thread, store.len());
     if second != 0 {
         return OutcomeAnswer::Refused(second);
     }
@@ -31,7 +31,7 @@ pub fn outcome_words<'a>(table: Table, thread: u8, store: &'a [u32]) -> &'a [u32
     if first != 0 {
         return &store[0..0];
     }
-    let second = refusals::place_refusal(table.n, thread, store.len());
+    let second = refusals::argument_refusal(table.n, thread, store.len());
     if second != 0 {
         return &store[0..0];
     }

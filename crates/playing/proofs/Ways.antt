@@ -16,7 +16,7 @@ use Rattle.model.specs.Threads.{at, put, marked}
 use Rattle.model.specs.Locks.{lockFree}
 use Rattle.model.specs.WellFormed.{wellFormed}
 use Rattle.model.specs.Calls.{begin, step, cancel, tick, State}
-use Rattle.model.specs.Refusals.{firstRefusal, noThread, lockOwned, placeRows, beginRows, laterRows, refusal}
+use Rattle.model.specs.Refusals.{firstRefusal, noThread, lockOwned, argumentRows, beginRows, laterRows, refusal}
 use Rattle.model.specs.Promise.{state, Promise}
 use Rattle.model.specs.RecordBytes.{beginKind, stepKind, cancelKind, tickKind, kindByte, threadByte, recordLength, lawful}
 use Rattle.model.specs.Decoding.{operationOf, front}
@@ -40,7 +40,7 @@ module _ (s : State) (formed : wellFormed (s .table) ≡ true) (x : ℕ) where
   module _ (beyond : s .table .n ≤ x) where
     -- a step of no thread
     step-beyond : refusal (step x) s ≢ 0
-    unfolding laterRows placeRows noThread
+    unfolding laterRows argumentRows noThread
     step-beyond = not-zero _ 2 (later-refusal (step x) s formed ∙ first-here _ _ (le-leb (s .table .n) x beyond))
 
     -- a cancel of no thread
@@ -50,7 +50,7 @@ module _ (s : State) (formed : wellFormed (s .table) ≡ true) (x : ℕ) where
 
     -- a begin of no thread
     begin-beyond : (o : Operation) → refusal (begin x o) s ≢ 0
-    unfolding laterRows placeRows noThread
+    unfolding laterRows argumentRows noThread
     begin-beyond o = not-zero _ 2 (later-refusal (begin x o) s formed ∙ first-here _ _ (le-leb (s .table .n) x beyond))
 
   -- a cancel of a thread whose lock is owned

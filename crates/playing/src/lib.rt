@@ -99,7 +99,7 @@ pub fn play(from: Playback, store: &mut [u32], bytes: &[u8]) -> Played
             continue;
         }
         words::zero_thread(store, x);
-        let j = begins::joined_place(n, x, op) as usize;
+        let j = begins::joined_thread(n, x, op) as usize;
         let target = now.threads[j];
         now.threads[j] = begins::join_queue(n, x, op, target);
         let mine = now.threads[i];

@@ -4,7 +4,7 @@ ghost use mathlib.Core.List.{[], _∷_};
 ghost use Prim.Native.Nat.{ℕ};
 ghost use Rattle.model.specs.declared.Table.{Table};
 ghost use Rattle.model.specs.Threads.{at};
-ghost use Rattle.model.specs.Refusals.{firstRefusal, noThread, badLength, lockOwned, tableRows, placeRows, beginRows, makeRefusal};
+ghost use Rattle.model.specs.Refusals.{firstRefusal, noThread, badLength, lockOwned, tableRows, argumentRows, beginRows, makeRefusal};
 ghost use Rattle.refusals.specs.Rows.{firstOf, threadRows, operationRows};
 use model::Operation;
 use model::Table;
@@ -65,8 +65,8 @@ pub fn length_refusal(expected: usize, actual: usize) -> u8
 }
 
 // The rows on a thread's number and the length of a word store.
-pub fn place_refusal(n: u8, x: u8, words: usize) -> u8
-    ensures { λ r. ⌜ ((t : Table) → t .n ≡ n → r ≡ firstRefusal (placeRows t x words)) ⌝ }
+pub fn argument_refusal(n: u8, x: u8, words: usize) -> u8
+    ensures { λ r. ⌜ ((t : Table) → t .n ≡ n → r ≡ firstRefusal (argumentRows t x words)) ⌝ }
 {
     let number = number_refusal(n, x);
     let length = length_refusal(8 * (n as usize), words);

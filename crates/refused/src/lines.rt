@@ -246,7 +246,7 @@ fn read_by(list: &[u8], line: &[u8]) -> Line {
     read_numbers(line, command, end, count as usize, most)
 }
 
-// A line, taken apart.
+// A line, taken apart by the list of commands: each with how many numbers stand behind it, or a dot for text, and a plus where the last may be above 255.
 pub fn read(line: &[u8]) -> Line {
     read_by(
         b"\

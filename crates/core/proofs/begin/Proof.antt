@@ -9,8 +9,8 @@ use Rattle.core.proofs.begin.Tie as tie
 zero-thread-requires : tie.Need-zero-thread-requires
 zero-thread-requires c κs = search begin-words
 
-joined-place-requires : tie.Need-joined-place-requires
-joined-place-requires c κs = search needs
+joined-thread-requires : tie.Need-joined-thread-requires
+joined-thread-requires c κs = search needs
 
 cast-j : tie.Need-cast-j
 cast-j c = search needs
@@ -19,19 +19,19 @@ mul-other : tie.Need-mul-other
 mul-other c = search needs
 
 element-copy-out-other : tie.Need-element-copy-out-other
-element-copy-out-other c = joined-in-array _ _ _ (c .before .before .before .before .before .before .pre) _ refl _ (c .joined-place .ensures)
+element-copy-out-other c = joined-in-array _ _ _ (c .before .before .before .before .before .before .pre) _ refl _ (c .joined-thread .ensures)
 
 join-queue-requires : tie.Need-join-queue-requires
 unfolding at
 join-queue-requires c κs =
     let asked = c .before .before .before .before .before .before .before .pre in
-    joined-room _ _ _ asked _ refl _ (c .before .joined-place .ensures) (accepted-shaped _ _ asked _ (c .before .before .before .before .before .before .before .good .0))
+    joined-room _ _ _ asked _ refl _ (c .before .joined-thread .ensures) (accepted-shaped _ _ asked _ (c .before .before .before .before .before .before .before .good .0))
 
 mul-own : tie.Need-mul-own
 mul-own c = search needs
 
 element-set-from-own : tie.Need-element-set-from-own
-element-set-from-own c = joined-in-array _ _ _ (c .before .before .before .before .before .before .before .before .pre) _ refl _ (c .before .before .joined-place .ensures)
+element-set-from-own c = joined-in-array _ _ _ (c .before .before .before .before .before .before .before .before .pre) _ refl _ (c .before .before .joined-thread .ensures)
 
 mul-own-2 : tie.Need-mul-own-2
 mul-own-2 c = search needs
@@ -53,14 +53,14 @@ same-length c = search needs
 
 returns : tie.Need-returns
 unfolding at put
-returns c = begin-leaves _ _ _ (c .before .before .before .before .before .before .before .before .before .before .pre) _ (c .before .before .before .before .before .before .before .zero-thread .ensures) _ refl _ _ _ (c .before .before .join-queue .ensures) (c .begin-own .ensures) (c .before .before .before .before .joined-place .ensures)
+returns c = begin-leaves _ _ _ (c .before .before .before .before .before .before .before .before .before .before .pre) _ (c .before .before .before .before .before .before .before .zero-thread .ensures) _ refl _ _ _ (c .before .before .join-queue .ensures) (c .begin-own .ensures) (c .before .before .before .before .joined-thread .ensures)
 
 pub begin-spec : {M : Type 1} → statement M
 begin-spec =
     tie.close
     (tie.spec
     zero-thread-requires
-    joined-place-requires
+    joined-thread-requires
     cast-j
     mul-other
     element-copy-out-other

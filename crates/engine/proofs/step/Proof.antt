@@ -17,8 +17,8 @@ refuse-requires c κs = search needs
 returns : tie.Need-returns
 returns c = refused-as _ (c .refuse .ensures) (table-refuses (step (c .before .before .before .before .args .thread)) _ _ (c .before .before .table-refusal .ensures) (c .before .if1 .taken))
 
-place-refusal-requires : tie.Need-place-refusal-requires
-place-refusal-requires c κs = search needs
+argument-refusal-requires : tie.Need-argument-refusal-requires
+argument-refusal-requires c κs = search needs
 
 refuse-requires-2 : tie.Need-refuse-requires-2
 refuse-requires-2 c κs = search needs
@@ -27,10 +27,10 @@ returns-2 : tie.Need-returns-2
 unfolding laterRows
 returns-2 c =
     let a = c .before .before .before .before .before .before .args in
-    refused-as _ (c .refuse2 .ensures) (later-refuses (step (a .thread)) _ _ (c .before .before .before .before .table-refusal .ensures) (c .before .before .before .if1 .left) _ (c .before .before .place-refusal .ensures (a .table) refl) (c .before .if2 .taken))
+    refused-as _ (c .refuse2 .ensures) (later-refuses (step (a .thread)) _ _ (c .before .before .before .before .table-refusal .ensures) (c .before .before .before .if1 .left) _ (c .before .before .argument-refusal .ensures (a .table) refl) (c .before .if2 .taken))
 
 step-requires : tie.Need-step-requires
-step-requires c κs = let place = c .before .before .place-refusal .ensures (c .before .before .before .before .before .before .args .table) refl in step-accepted _ (table-formed (c .before .before .before .before .before .before .args .table) _ (c .before .before .before .before .table-refusal .ensures) (c .before .before .before .if1 .left)) (c .before .before .before .before .before .before .args .thread) (place-below (c .before .before .before .before .before .before .args .table) _ _ _ place (c .before .if2 .left)) (place-store (c .before .before .before .before .before .before .args .table) _ _ _ place (c .before .if2 .left))
+step-requires c κs = let place = c .before .before .argument-refusal .ensures (c .before .before .before .before .before .before .args .table) refl in step-accepted _ (table-formed (c .before .before .before .before .before .before .args .table) _ (c .before .before .before .before .table-refusal .ensures) (c .before .before .before .if1 .left)) (c .before .before .before .before .before .before .args .thread) (place-below (c .before .before .before .before .before .before .args .table) _ _ _ place (c .before .if2 .left)) (place-store (c .before .before .before .before .before .before .args .table) _ _ _ place (c .before .if2 .left))
 
 same-length : tie.Need-same-length
 same-length c = search needs
@@ -45,7 +45,7 @@ step-spec =
     table-refusal-requires
     refuse-requires
     returns
-    place-refusal-requires
+    argument-refusal-requires
     refuse-requires-2
     returns-2
     step-requires

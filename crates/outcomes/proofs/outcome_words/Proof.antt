@@ -27,8 +27,8 @@ returns c =
     let test1 = c .before .if1 .taken in
     words-refused _ (a .thread) _ (table-number (step (a .thread)) _ _ (c .before .before .table-refusal .ensures) test1) test1
 
-place-refusal-requires : tie.Need-place-refusal-requires
-place-refusal-requires c κs = search needs
+argument-refusal-requires : tie.Need-argument-refusal-requires
+argument-refusal-requires c κs = search needs
 
 sub-result-2 : tie.Need-sub-result-2
 sub-result-2 c = search needs
@@ -43,7 +43,7 @@ returns-2 : tie.Need-returns-2
 unfolding laterRows
 returns-2 c =
     let a = c .before .before .before .before .before .before .args in
-    words-refused _ (a .thread) _ (later-number (step (a .thread)) _ _ (c .before .before .before .before .table-refusal .ensures) (c .before .before .before .if1 .left) _ (c .before .before .place-refusal .ensures (a .t1) refl)) (c .before .if2 .taken)
+    words-refused _ (a .thread) _ (later-number (step (a .thread)) _ _ (c .before .before .before .before .table-refusal .ensures) (c .before .before .before .if1 .left) _ (c .before .before .argument-refusal .ensures (a .t1) refl)) (c .before .if2 .taken)
 
 mul-own : tie.Need-mul-own
 mul-own c = search needs
@@ -51,7 +51,7 @@ mul-own c = search needs
 element-copy-out-own : tie.Need-element-copy-out-own
 element-copy-out-own c =
     let a = c .before .before .before .before .before .args in
-    omega (arith, table-few (a .t1) _ (c .before .before .before .table-refusal .ensures) (c .before .before .if1 .left), place-below (a .t1) _ _ _ (c .before .place-refusal .ensures (a .t1) refl) (c .if2 .left))
+    omega (arith, table-few (a .t1) _ (c .before .before .before .table-refusal .ensures) (c .before .before .if1 .left), place-below (a .t1) _ _ _ (c .before .argument-refusal .ensures (a .t1) refl) (c .if2 .left))
 
 first-words-requires : tie.Need-first-words-requires
 first-words-requires c κs = search needs
@@ -60,7 +60,7 @@ returns-3 : tie.Need-returns-3
 unfolding at laterRows
 returns-3 c =
     let a = c .before .before .before .before .before .before .before .before .args in
-    c .first-words .ensures ∙ words-shown _ (a .thread) _ (later-number (step (a .thread)) _ _ (c .before .before .before .before .before .before .table-refusal .ensures) (c .before .before .before .before .before .if1 .left) _ (c .before .before .before .before .place-refusal .ensures (a .t1) refl)) (c .before .before .before .if2 .left)
+    c .first-words .ensures ∙ words-shown _ (a .thread) _ (later-number (step (a .thread)) _ _ (c .before .before .before .before .before .before .table-refusal .ensures) (c .before .before .before .before .before .if1 .left) _ (c .before .before .before .before .argument-refusal .ensures (a .t1) refl)) (c .before .before .before .if2 .left)
 
 pub outcome-words-spec : {M : Type 1} → statement M
 outcome-words-spec =
@@ -71,7 +71,7 @@ outcome-words-spec =
     part-result-start
     part-result-end
     returns
-    place-refusal-requires
+    argument-refusal-requires
     sub-result-2
     part-result-start-2
     part-result-end-2

@@ -393,9 +393,9 @@ zero-thread-requires c κs =
     let so-far = c .before .before .before .before .before .before .before .before .before .before .before .before .before .before .before .before .loop .inv in
     begin-words _ _ _ (begin-runs so-far (sym (c .before .before .before .before .before .before .before .before .before .before .before .before .before .before .is-lawful .ensures) ∙ c .before .before .before .before .before .before .before .before .before .before .before .before .before .if1 .taken) (c .before .before .before .before .before .before .before .if3 .left) _ _ (c .before .before .begin-refusal .ensures _ (so-far .size) refl) (c .before .if9 .left))
 
-joined-place-requires : tie.Need-joined-place-requires Inv-loop2 μ-loop2 Inv-loop μ-loop
+joined-thread-requires : tie.Need-joined-thread-requires Inv-loop2 μ-loop2 Inv-loop μ-loop
 unfolding at
-joined-place-requires c κs = search needs
+joined-thread-requires c κs = search needs
 
 cast-j-2 : tie.Need-cast-j-2 Inv-loop2 μ-loop2 Inv-loop μ-loop
 unfolding at
@@ -405,31 +405,31 @@ mul-target : tie.Need-mul-target Inv-loop2 μ-loop2 Inv-loop μ-loop
 unfolding at
 mul-target c =
     let so-far = c .before .before .before .before .before .before .before .before .before .before .before .before .before .before .before .before .before .before .before .before .loop .inv in
-    omega (arith, joined-in-array _ _ _ (begin-runs so-far (sym (c .before .before .before .before .before .before .before .before .before .before .before .before .before .before .before .before .before .before .is-lawful .ensures) ∙ c .before .before .before .before .before .before .before .before .before .before .before .before .before .before .before .before .before .if1 .taken) (c .before .before .before .before .before .before .before .before .before .before .before .if3 .left) _ _ (c .before .before .before .before .before .before .begin-refusal .ensures _ (so-far .size) refl) (c .before .before .before .before .before .if9 .left)) _ (so-far .size) _ (c .joined-place .ensures))
+    omega (arith, joined-in-array _ _ _ (begin-runs so-far (sym (c .before .before .before .before .before .before .before .before .before .before .before .before .before .before .before .before .before .before .is-lawful .ensures) ∙ c .before .before .before .before .before .before .before .before .before .before .before .before .before .before .before .before .before .if1 .taken) (c .before .before .before .before .before .before .before .before .before .before .before .if3 .left) _ _ (c .before .before .before .before .before .before .begin-refusal .ensures _ (so-far .size) refl) (c .before .before .before .before .before .if9 .left)) _ (so-far .size) _ (c .joined-thread .ensures))
 
 element-copy-out-target : tie.Need-element-copy-out-target Inv-loop2 μ-loop2 Inv-loop μ-loop
 unfolding at
 element-copy-out-target c =
     let so-far = c .before .before .before .before .before .before .before .before .before .before .before .before .before .before .before .before .before .before .before .before .loop .inv in
-    joined-in-array _ _ _ (begin-runs so-far (sym (c .before .before .before .before .before .before .before .before .before .before .before .before .before .before .before .before .before .before .is-lawful .ensures) ∙ c .before .before .before .before .before .before .before .before .before .before .before .before .before .before .before .before .before .if1 .taken) (c .before .before .before .before .before .before .before .before .before .before .before .if3 .left) _ _ (c .before .before .before .before .before .before .begin-refusal .ensures _ (so-far .size) refl) (c .before .before .before .before .before .if9 .left)) _ (so-far .size) _ (c .joined-place .ensures)
+    joined-in-array _ _ _ (begin-runs so-far (sym (c .before .before .before .before .before .before .before .before .before .before .before .before .before .before .before .before .before .before .is-lawful .ensures) ∙ c .before .before .before .before .before .before .before .before .before .before .before .before .before .before .before .before .before .if1 .taken) (c .before .before .before .before .before .before .before .before .before .before .before .if3 .left) _ _ (c .before .before .before .before .before .before .begin-refusal .ensures _ (so-far .size) refl) (c .before .before .before .before .before .if9 .left)) _ (so-far .size) _ (c .joined-thread .ensures)
 
 join-queue-requires : tie.Need-join-queue-requires Inv-loop2 μ-loop2 Inv-loop μ-loop
 unfolding at
 join-queue-requires c κs =
     let so-far = c .before .before .before .before .before .before .before .before .before .before .before .before .before .before .before .before .before .before .before .before .before .loop .inv in
-    joined-room _ _ _ (begin-runs so-far (sym (c .before .before .before .before .before .before .before .before .before .before .before .before .before .before .before .before .before .before .before .is-lawful .ensures) ∙ c .before .before .before .before .before .before .before .before .before .before .before .before .before .before .before .before .before .before .if1 .taken) (c .before .before .before .before .before .before .before .before .before .before .before .before .if3 .left) _ _ (c .before .before .before .before .before .before .before .begin-refusal .ensures _ (so-far .size) refl) (c .before .before .before .before .before .before .if9 .left)) _ (so-far .size) _ (c .before .joined-place .ensures) (so-far .runnable .checked .shaped)
+    joined-room _ _ _ (begin-runs so-far (sym (c .before .before .before .before .before .before .before .before .before .before .before .before .before .before .before .before .before .before .before .is-lawful .ensures) ∙ c .before .before .before .before .before .before .before .before .before .before .before .before .before .before .before .before .before .before .if1 .taken) (c .before .before .before .before .before .before .before .before .before .before .before .before .if3 .left) _ _ (c .before .before .before .before .before .before .before .begin-refusal .ensures _ (so-far .size) refl) (c .before .before .before .before .before .before .if9 .left)) _ (so-far .size) _ (c .before .joined-thread .ensures) (so-far .runnable .checked .shaped)
 
 mul-mine-3 : tie.Need-mul-mine-3 Inv-loop2 μ-loop2 Inv-loop μ-loop
 unfolding at
 mul-mine-3 c =
     let so-far = c .before .before .before .before .before .before .before .before .before .before .before .before .before .before .before .before .before .before .before .before .before .before .loop .inv in
-    omega (arith, joined-in-array _ _ _ (begin-runs so-far (sym (c .before .before .before .before .before .before .before .before .before .before .before .before .before .before .before .before .before .before .before .before .is-lawful .ensures) ∙ c .before .before .before .before .before .before .before .before .before .before .before .before .before .before .before .before .before .before .before .if1 .taken) (c .before .before .before .before .before .before .before .before .before .before .before .before .before .if3 .left) _ _ (c .before .before .before .before .before .before .before .before .begin-refusal .ensures _ (so-far .size) refl) (c .before .before .before .before .before .before .before .if9 .left)) _ (so-far .size) _ (c .before .before .joined-place .ensures))
+    omega (arith, joined-in-array _ _ _ (begin-runs so-far (sym (c .before .before .before .before .before .before .before .before .before .before .before .before .before .before .before .before .before .before .before .before .is-lawful .ensures) ∙ c .before .before .before .before .before .before .before .before .before .before .before .before .before .before .before .before .before .before .before .if1 .taken) (c .before .before .before .before .before .before .before .before .before .before .before .before .before .if3 .left) _ _ (c .before .before .before .before .before .before .before .before .begin-refusal .ensures _ (so-far .size) refl) (c .before .before .before .before .before .before .before .if9 .left)) _ (so-far .size) _ (c .before .before .joined-thread .ensures))
 
 element-set-from-mine-2 : tie.Need-element-set-from-mine-2 Inv-loop2 μ-loop2 Inv-loop μ-loop
 unfolding at
 element-set-from-mine-2 c =
     let so-far = c .before .before .before .before .before .before .before .before .before .before .before .before .before .before .before .before .before .before .before .before .before .before .loop .inv in
-    joined-in-array _ _ _ (begin-runs so-far (sym (c .before .before .before .before .before .before .before .before .before .before .before .before .before .before .before .before .before .before .before .before .is-lawful .ensures) ∙ c .before .before .before .before .before .before .before .before .before .before .before .before .before .before .before .before .before .before .before .if1 .taken) (c .before .before .before .before .before .before .before .before .before .before .before .before .before .if3 .left) _ _ (c .before .before .before .before .before .before .before .before .begin-refusal .ensures _ (so-far .size) refl) (c .before .before .before .before .before .before .before .if9 .left)) _ (so-far .size) _ (c .before .before .joined-place .ensures)
+    joined-in-array _ _ _ (begin-runs so-far (sym (c .before .before .before .before .before .before .before .before .before .before .before .before .before .before .before .before .before .before .before .before .is-lawful .ensures) ∙ c .before .before .before .before .before .before .before .before .before .before .before .before .before .before .before .before .before .before .before .if1 .taken) (c .before .before .before .before .before .before .before .before .before .before .before .before .before .if3 .left) _ _ (c .before .before .before .before .before .before .before .before .begin-refusal .ensures _ (so-far .size) refl) (c .before .before .before .before .before .before .before .if9 .left)) _ (so-far .size) _ (c .before .before .joined-thread .ensures)
 
 mul-mine-4 : tie.Need-mul-mine-4 Inv-loop2 μ-loop2 Inv-loop μ-loop
 unfolding at
@@ -471,7 +471,7 @@ loop-again-9 c =
     let test3 = c .before .before .before .before .before .before .before .before .before .before .before .before .before .before .before .if3 .left in
     let begin-refusal-tells = c .before .before .before .before .before .before .before .before .before .before .begin-refusal .ensures in
     let test9 = c .before .before .before .before .before .before .before .before .before .if9 .left in
-    way-begin so-far (sym is-lawful-tells ∙ test1) _ (ap (λ (k : ℕ). c .before .before .before .before .before .before .before .before .before .before .before .before .before .before .before .before .before .before .before .before .before .before .before .before .loop .at + k) (c .before .before .before .before .before .before .before .before .before .before .before .before .before .before .before .before .before .record-length .ensures)) test3 (c .before .before .before .before .before .before .before .before .before .before .before .before .before .before .before .before .if2 .left) (c .before .before .before .before .before .before .before .before .before .before .before .before .before .before .if4 .left) (c .before .before .before .before .before .before .before .before .before .before .before .before .if7 .left) _ (c .before .before .before .before .before .before .before .before .before .before .before .operation-at .ensures) _ (begin-refusal-tells _ (so-far .size) refl) test9 _ _ _ (begin-leaves _ _ _ (begin-runs so-far (sym is-lawful-tells ∙ test1) test3 _ _ (begin-refusal-tells _ (so-far .size) refl) test9) _ (c .before .before .before .before .before .before .before .zero-thread .ensures) _ (so-far .size) _ _ _ (c .before .before .join-queue .ensures) (c .begin-own .ensures) (c .before .before .before .before .joined-place .ensures))
+    way-begin so-far (sym is-lawful-tells ∙ test1) _ (ap (λ (k : ℕ). c .before .before .before .before .before .before .before .before .before .before .before .before .before .before .before .before .before .before .before .before .before .before .before .before .loop .at + k) (c .before .before .before .before .before .before .before .before .before .before .before .before .before .before .before .before .before .record-length .ensures)) test3 (c .before .before .before .before .before .before .before .before .before .before .before .before .before .before .before .before .if2 .left) (c .before .before .before .before .before .before .before .before .before .before .before .before .before .before .if4 .left) (c .before .before .before .before .before .before .before .before .before .before .before .before .if7 .left) _ (c .before .before .before .before .before .before .before .before .before .before .before .operation-at .ensures) _ (begin-refusal-tells _ (so-far .size) refl) test9 _ _ _ (begin-leaves _ _ _ (begin-runs so-far (sym is-lawful-tells ∙ test1) test3 _ _ (begin-refusal-tells _ (so-far .size) refl) test9) _ (c .before .before .before .before .before .before .before .zero-thread .ensures) _ (so-far .size) _ _ _ (c .before .before .join-queue .ensures) (c .begin-own .ensures) (c .before .before .before .before .joined-thread .ensures))
 
 sub-is-whole : tie.Need-sub-is-whole Inv-loop2 μ-loop2 Inv-loop μ-loop
 sub-is-whole c = omega (arith, (c .before .before .before .loop .inv) .within)
@@ -587,7 +587,7 @@ play-spec =
     loop-less-8
     loop-again-8
     zero-thread-requires
-    joined-place-requires
+    joined-thread-requires
     cast-j-2
     mul-target
     element-copy-out-target
