@@ -2,6 +2,7 @@
 ghost use mathlib.Core.Path.{_≡_};
 ghost use Prim.Native.Nat.{_≤_};
 ghost use lib.ListN.{length};
+use crate::printed;
 use crate::same::WORD;
 use crate::same::blank;
 use crate::same::kept_records;
@@ -81,7 +82,7 @@ fn unless(kept: bool, name: &[u8]) {
 
 // Prints code, source and count.
 fn print_outcome(outcome: Outcome) {
-    text::print_signed(outcome.code);
+    printed::print_signed(outcome.code);
     print(b" ");
     print_number(outcome.source);
     print(b" ");
@@ -117,7 +118,7 @@ fn change(name: &[u8], which: u8, table: Table, given: Arguments) {
     let answer = after.answer;
     let next = after.table;
     print(name);
-    text::print_answer(answer);
+    printed::print_answer(answer);
     unless(same_table(table, next), b" [table]");
     unless(kept_store(&store), b" [store]");
 }
@@ -135,7 +136,7 @@ fn outcome(table: Table, given: Arguments) {
     print(b", outcome ");
     let answer = outcomes::outcome(table, x, &store[0..k]);
     match answer {
-        OutcomeAnswer::Refused(n) => text::print_answer(Answer::Refused(n)),
+        OutcomeAnswer::Refused(n) => printed::print_answer(Answer::Refused(n)),
         OutcomeAnswer::Shown(outcome) => print_outcome(outcome),
     }
     print(b", words ");
@@ -162,7 +163,7 @@ pub fn report(table: Table, records: usize) {
     let filled = fill(table, [record; 33], k);
     let answer = filled.answer;
     let after = filled.records;
-    text::print_answer(answer);
+    printed::print_answer(answer);
     unless(kept_records(after), b" [records]");
 }
 

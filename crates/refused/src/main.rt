@@ -2,6 +2,7 @@
 
 mod calls;
 mod lines;
+mod printed;
 mod same;
 mod tables;
 mod tries;

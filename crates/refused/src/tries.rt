@@ -3,6 +3,7 @@ use crate::calls;
 use crate::calls::Arguments;
 use crate::lines;
 use crate::lines::Line;
+use crate::printed;
 use crate::tables::operation;
 use libc::STDOUT_FILENO;
 use model::Record;
@@ -73,7 +74,7 @@ fn made(n: u8) {
     calls::print(b"N ");
     io::print_decimal(STDOUT_FILENO, n as u64);
     calls::print(b": ");
-    text::print_answer(answer);
+    printed::print_answer(answer);
     calls::print(b", N ");
     io::print_decimal(STDOUT_FILENO, table.n as u64);
 }
@@ -110,7 +111,7 @@ fn written(first: bool, numbers: [u8; 10]) {
     let len = calls::lesser(length as usize, 44);
     let answer = writing::write(first, item, &mut bytes[0..len]);
     calls::print(b": ");
-    text::print_answer(answer);
+    printed::print_answer(answer);
     calls::print(b", bytes");
     print_bytes(&bytes);
 }

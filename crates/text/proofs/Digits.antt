@@ -1,43 +1,37 @@
--- The digits that `io::decimal` makes of a number are the model's, and how many there are at most.
+-- A number's decimal by its last digit, and how many digits there are at most.
 use mathlib.Core.Path.{_≡_, refl}
-use mathlib.Core.List.{[], _∷_}
+use mathlib.Core.List.{[], _∷_, _++_}
 use Prim.Native.Nat.{ℕ, zero, suc, _-_, _/_, _%_, _^_, _≤_, _<_}
 use native.Mathlib.Omega.{arith}
 use native.Mathlib.Nat.{mod-lt, mod-eq-of-lt, le-div-iff-mul-le, div-lt-iff-lt-mul, one-le-pow}
 use lib.ListN.{length, length-append}
 use lib.Dec.{ltb}
 use borrow.Author.Tests.{lt-ltb, le-ltb, ltb-true, ltb-false}
-use Rattle.io.specs.Digits.{Fewest, digits as spelled}
 use Rattle.model.specs.Bondtrace.{digit, digits, decimal}
 use Rattle.model.proofs.Laws.{by}
 
--- a number is below its power of ten
-below-power : (k : ℕ) → k < 10 ^ k
-below-power zero = omega arith
-below-power (suc k) = omega (arith, below-power k)
-
--- the last k + 1 digits of a number that has no fewer are all of them
-same-digits : (k most n : ℕ) → k ≤ most → n < 10 ^ suc k → (0 < k → 10 ^ k ≤ n) → spelled 10 (suc k) n ≡ digits (suc most) n
+-- where as many digits are allowed for as the number says, more change nothing
+enough-digits : (most more n : ℕ) → n < most → n < more → digits most n ≡ digits more n
 unfolding digits
-same-digits zero most n few small large = let h : n < 10 = omega arith in rw (mod-eq-of-lt h, lt-ltb n 10 h) refl
-same-digits (suc k) zero n few small large = absurd (omega arith)
-same-digits (suc k) (suc most) n few small large =
-    let least : 10 ^ suc k ≤ n = large (omega arith) in
-    let h : 10 ≤ n = omega (arith, one-le-pow k 10 (omega arith)) in
-    let last : n % 10 < 10 = mod-lt n (omega arith) in
-    rw (lt-ltb (n % 10) 10 last, le-ltb n 10 h, same-digits k most (n / 10) (omega arith) (div-lt-iff-lt-mul (omega arith) .1 (omega arith)) (λ _. le-div-iff-mul-le (omega arith) .1 (omega arith))) refl
-
--- the fewest digits that hold a number are its decimal
-pub decimal-spelled : (n k : ℕ) → Fewest 10 1 n k → spelled 10 k n ≡ decimal n
-unfolding decimal
-decimal-spelled n zero fewest = absurd (omega (arith, fewest .0))
-decimal-spelled n (suc k) fewest = same-digits k n n few (fewest .1) large
+enough-digits zero more n h k = absurd (omega arith)
+enough-digits (suc most) zero n h k = absurd (omega arith)
+enough-digits (suc most) (suc more) n h k = by (ltb n 10)
+    (λ e. rw e refl)
+    (λ e. let some : 10 ≤ n = ltb-false n 10 e in rw (e, enough-digits most more (n / 10) (tenth-less n most some h) (tenth-less n more some k)) refl)
   where
-    large : 0 < k → 10 ^ k ≤ n
-    large some = let e : suc k - 1 ≡ k = omega arith in rw e at (fewest .2 (omega arith))
+    -- a tenth of a number is less than it
+    tenth-less : (n most : ℕ) → 10 ≤ n → n < suc most → n / 10 < most
+    tenth-less n most some h = omega arith
 
-    few : k ≤ n
-    few = by (ltb 0 k) (λ e. omega (arith, below-power k, large (ltb-true 0 k e))) (λ e. omega (arith, ltb-false 0 k e))
+-- a number below ten is its digit
+pub decimal-one : (n : ℕ) → n < 10 → decimal n ≡ digit (n % 10) ∷ []
+unfolding decimal digits
+decimal-one n h = rw (lt-ltb n 10 h, mod-eq-of-lt h) refl
+
+-- another is its tenth, and then its last digit
+pub decimal-more : (n : ℕ) → 10 ≤ n → decimal n ≡ decimal (n / 10) ++ (digit (n % 10) ∷ [])
+unfolding decimal digits
+decimal-more n h = rw (le-ltb n 10 h, enough-digits n (suc (n / 10)) (n / 10) (omega arith) (omega arith)) refl
 
 -- a number below 10 to the k + 1 has at most k + 1 digits
 digits-short : (most k n : ℕ) → n < 10 ^ suc k → length (digits most n) ≤ suc k

@@ -8,9 +8,8 @@ use lib.ListN.{length, take, drop, getD, set, length-append}
 use lib.Seq.{sets, length-sets, set-out, sets-eq, take-suc, take-all, length-take-le, take-append-seam}
 use lib.Dec.{leb}
 use borrow.Author.Tests.{leb-true, leb-false}
-use Rattle.io.specs.Counts.{Counts}
 use Rattle.model.proofs.Laws.{by}
-use Rattle.text.specs.Writing.{Written, Printed}
+use Rattle.text.specs.Writing.{Counts, Written, Printed}
 
 -- past the end nothing is stored
 sets-out : (text l : List ℕ) (i : ℕ) → length l ≤ i → sets l i text ≡ l

@@ -2,9 +2,12 @@
 use mathlib.Core.Path.{_≡_}
 use mathlib.Core.List.{List}
 use Prim.Native.Nat.{ℕ, _+_, _-_, _≤_, min}
-use lib.ListN.{length}
+use lib.ListN.{length, take}
 use lib.Seq.{sets}
-use Rattle.io.specs.Counts.{Counts}
+
+-- n counts bytes at the front of some bytes. The second part follows from the first; both stand here, since the borrow checker looks for them where `&out[..n]` is borrowed
+abbrev pub Counts : ℕ → List ℕ → Type 0
+Counts n bytes = (n ≤ length bytes) × (n ≡ length (take n bytes))
 
 -- the bytes after are those before but for the text, which stands from place start on and is cut off where the bytes end; stop is the place behind what is written
 pub record Written (start : ℕ) (text before after : List ℕ) (stop : ℕ) : Type 0 where

@@ -7,7 +7,6 @@ ghost use lib.IntN.{natAbs};
 ghost use Rattle.model.specs.Bondtrace.{decimal, signed};
 ghost use Rattle.text.specs.Texts.{spaced, numbersLine, answerText, longestWord};
 ghost use Rattle.text.specs.Writing.{Written};
-use libc::STDOUT_FILENO;
 use model::Answer;
 
 // What stands between two words of a line.
@@ -18,6 +17,9 @@ pub const NEWLINE: u8 = b'\n';
 
 // What stands before a number below 0.
 const MINUS: u8 = b'-';
+
+// The digit 0: the others follow it in their order.
+const ZERO: u8 = b'0';
 
 // One byte at a place.
 pub fn put_byte(out: &mut [u8], start: usize, byte: u8) -> usize
@@ -43,13 +45,16 @@ pub fn put_text(out: &mut [u8], start: usize, text: &[u8]) -> usize
     end
 }
 
-// A number in decimal.
+// A number in decimal: all digits but the last, and then that.
 pub fn put_number(out: &mut [u8], start: usize, n: u64) -> usize
     ensures { λ r. ⌜ Written start (decimal n) (now (out .entry)) (now (out .exit)) r ⌝ }
 {
-    let mut digits = [0u8; 20];
-    let k = io::decimal(n, &mut digits);
-    put_text(out, start, &digits[..k])
+    let last = ZERO + (n % 10) as u8;
+    if n < 10 {
+        return put_byte(out, start, last);
+    }
+    let end = put_number(out, start, n / 10);
+    put_byte(out, end, last)
 }
 
 // A code without its sign.
@@ -119,18 +124,4 @@ pub fn put_answer(out: &mut [u8], start: usize, answer: Answer) -> usize
         Answer::Wants => put_text(out, start, b"wants"),
         Answer::Asleep => put_text(out, start, b"asleep"),
     }
-}
-
-// Prints an answer in words, without an end of line.
-pub fn print_answer(answer: Answer) {
-    let mut line = io::buffer();
-    let end = put_answer(&mut line, 0, answer);
-    io::write_all(STDOUT_FILENO, &line[..end]);
-}
-
-// Prints a code with its sign.
-pub fn print_signed(code: i32) {
-    let mut line = io::buffer();
-    let end = put_signed(&mut line, 0, code);
-    io::write_all(STDOUT_FILENO, &line[..end]);
 }
