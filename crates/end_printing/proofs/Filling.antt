@@ -1,39 +1,25 @@
 -- The loop that fills the buffer: what holds each time.
 use mathlib.Core.Path.{_≡_, refl, sym, ap, _∙_, subst}
-use mathlib.Core.Bool.{Bool, true, false}
-use mathlib.Core.List.{List, [], _++_}
+use mathlib.Core.Logic.{_≢_, inl, inr}
+use mathlib.Core.Bool.{Bool, false}
+use mathlib.Core.List.{List, [], _++_, append-nil, append-assoc}
 use Prim.Native.Nat.{ℕ, _+_, _-_, _*_, _≤_, _<_}
 use native.Mathlib.Omega.{arith}
-use lib.ListN.{length, take, drop, replicate, length-append, length-drop, take-append-drop, length-replicate, replicate-append-replicate}
-use lib.Seq.{length-take-le, take-append-seam, take-take, drop-drop}
-use Rattle.model.specs.Refusals.{makeRefusal}
-use Rattle.model.specs.RecordBytes.{threadByte, lawful}
-use Rattle.model.specs.Decoding.{front}
-use Rattle.model.proofs.Laws.{by}
+use lib.ListN.{length, take, drop, length-append, length-drop, take-append-drop}
+use lib.Seq.{length-take-le, take-take, drop-drop}
+use Rattle.model.specs.Lists.{upTo}
+use Rattle.model.specs.Bondtrace.{ascii, bondtrace}
 use Rattle.laws.proofs.Joined.{drop-of-take}
-use Rattle.laws.proofs.Schedule.{front-thread}
-use Rattle.model.proofs.Tested.{formed-few}
+use Rattle.text.specs.Writing.{Counts, Written, Printed}
+use Rattle.text.proofs.Writing.{printed, printed-whole}
 use Rattle.refill.specs.Refilled.{Refilled}
 use Rattle.opening.specs.declared.Playback.{Playback}
-use Rattle.opening.specs.Opened.{openRefusal, openSize, opened, Steady}
+use Rattle.opening.specs.Opened.{Steady}
 use Rattle.playing.specs.Playback.{Playable, PlayPromise, Carries}
-use Rattle.end_printing.specs.Known.{Reached}
-use Rattle.opening.proofs.Opening.{not-opened, opens, opened-size, opened-words}
-use Rattle.end_printing.proofs.Known.{reached-first, reached-more}
-use Rattle.end_printing.specs.Input.{Starts, Over}
-
--- these bytes are still to be played: what was kept, and a new piece of the input behind it
-pub record Along (t : Playback) (store bytes : List ℕ) : Type 0 where
-  pub head : List ℕ
-  pub input : List ℕ
-  pub rest : List ℕ
-  pub piece : List ℕ
-  pub reached : Reached head input false t store rest
-  pub there : bytes ≡ rest ++ piece
-
--- a playback that can go on has at most 32 threads
-pub steady-few : (t : Playback) → Steady t → t .table .n ≤ 32
-steady-few t steady = formed-few (t .table) (steady .checked .formed)
+use Rattle.played_text.specs.Known.{Reached, Starts, Settled, longestEnd}
+use Rattle.played_text.proofs.Known.{reached-more, reached-short}
+use Rattle.played_text.proofs.Stores.{Stored, zeros, stored-first, words-there, words-length, zeros-taken, array, stored-on, array-starts}
+use Rattle.end_printing.specs.Input.{mostBytes, tooLong, Told}
 
 -- the bytes of a buffer from start to end
 abbrev pub between : ℕ → ℕ → List ℕ → List ℕ
@@ -47,74 +33,64 @@ left-between start end k left buffer e =
     ∙ ap (λ (l : List ℕ). take (end - start - k) l) (drop-drop k start buffer)
     ∙ ap (λ (n : ℕ). take n (drop (start + k) buffer)) same)
 
--- the playback can go on, its words are the first `size` of an array, the bytes from start to end come next in its input, and no count comes near its end
-pub record Fills (buffer words : List ℕ) (size : ℕ) (t : Playback) (start end refills : ℕ) : Type 0 where
-  pub steady : Steady t
-  pub along : Along t (take size words) (between start end buffer)
-  pub sized : size ≡ 8 * t .table .n
-  pub array : length words ≡ 256
+-- these bytes are still to be played: what was kept, and a new piece behind it, the last of an input that starts with the first bytes and has as many as were delivered
+pub record Along (first : List ℕ) (t : Playback) (store bytes : List ℕ) (delivered : ℕ) : Type 0 where
+  pub head : List ℕ
+  pub input : List ℕ
+  pub rest : List ℕ
+  pub piece : List ℕ
+  pub more : List ℕ
+  pub reached : Reached head input false t store rest
+  pub there : bytes ≡ rest ++ piece
+  pub whole : head ++ (input ++ piece) ≡ first ++ more
+  pub counted : length (first ++ more) ≡ delivered
+
+-- the playback can go on, its words are the first `size` of an array, the bytes from start to end come next in its input, and each byte that was delivered was played or is one of them
+pub record Fills (first buffer words : List ℕ) (size : ℕ) (t : Playback) (start end delivered : ℕ) : Type 0 where
+  pub stored : Stored t size words
+  pub along : Along first t (take size words) (between start end buffer) delivered
   pub long : length buffer ≡ 65536
   pub ordered : start ≤ end
   pub filled : end ≤ 65536
-  pub room : t .place + 65536 * (refills + 1) < 18446744073709551616
-
--- as many zeros
-abbrev zeros : ℕ → List ℕ
-zeros k = replicate k 0
-
--- the first of many zeros
-zeros-taken : (size : ℕ) → size ≤ 256 → take size (zeros 256) ≡ zeros size
-zeros-taken size few =
-    let all : 256 ≡ size + (256 - size) = omega arith in
-    ap (λ (l : List ℕ). take size l) (ap zeros all ∙ sym (replicate-append-replicate size (256 - size) 0))
-    ∙ ap (λ (k : ℕ). take k (zeros size ++ zeros (256 - size))) (sym (length-replicate size 0))
-    ∙ take-append-seam (zeros size) (zeros (256 - size))
+  pub every : t .place + (end - start) ≡ delivered
 
 -- it is so at first
-pub fills-first : (buffer words : List ℕ) (size : ℕ) (t : Playback) (filled : ℕ) → Steady t → Starts t → words ≡ zeros 256 → size ≡ 8 * t .table .n → length buffer ≡ 65536
-    → (4 ≤ filled) × (filled ≤ 65536) → t .place < 65536 → Fills buffer words size t 4 filled 140737488355328
-fills-first buffer words size t filled steady starts blank sized long bounds near = record {
-  steady = steady;
+pub fills-first : (buffer : List ℕ) (size : ℕ) (t : Playback) (end delivered : ℕ) → Steady t → Starts t (take end buffer) → size ≡ 8 * t .table .n → length buffer ≡ 65536
+    → end ≤ 65536 → delivered ≡ end → Fills (take end buffer) buffer (zeros 256) size t 4 end delivered
+fills-first buffer size t end delivered steady starts sized long filled first = record {
+  stored = S;
   along = record {
-    head = starts .head;
+    head = take 4 (take end buffer);
     input = [];
     rest = [];
-    piece = between 4 filled buffer;
-    reached = rw (starts .is, store-is) (reached-first (starts .head) (starts .lawfully) (starts .made));
+    piece = between 4 end buffer;
+    more = [];
+    reached = rw (zeros-taken t size S) (starts .reached);
     there = refl;
+    whole = ap (λ (l : List ℕ). take 4 (take end buffer) ++ l) (sym (drop-of-take 4 end buffer)) ∙ take-append-drop 4 (take end buffer) ∙ sym (append-nil (take end buffer));
+    counted = ap (λ (l : List ℕ). length l) (append-nil (take end buffer)) ∙ taken ∙ sym first;
   };
-  sized = sized;
-  array = ap (λ (l : List ℕ). length l) blank ∙ length-replicate {A = ℕ} 256 0;
   long = long;
-  ordered = bounds .0;
-  filled = bounds .1;
-  room = omega arith;
+  ordered = omega (arith, starts .four, taken);
+  filled = filled;
+  every = omega (arith, starts .place, starts .four, taken, first);
 }
   where
-    -- as many words as the table has
-    size-is : size ≡ 8 * threadByte (starts .head)
-    size-is = sized ∙ ap (λ (u : Playback). 8 * u .table .n) (starts .is) ∙ opened-words (threadByte (starts .head))
+    S : Stored t size (zeros 256)
+    S = stored-first t size steady sized
 
-    -- all of them zero
-    store-is : take size words ≡ replicate (8 * threadByte (starts .head)) 0
-    store-is = ap (λ (l : List ℕ). take size l) blank ∙ zeros-taken size (omega (arith, sized, steady-few t steady)) ∙ ap zeros size-is
+    -- the first bytes are in the buffer
+    taken : length (take end buffer) ≡ end
+    taken = length-take-le end buffer (omega arith)
 
-module _ {buffer words : List ℕ} {size : ℕ} {t : Playback} {start end refills : ℕ} (F : Fills buffer words size t start end refills) where
-  -- there are at most as many words as the array has
-  pub words-there : size ≤ 256
-  words-there = omega (arith, steady-few t (F .steady), F .sized)
-
-  -- the words are those of the table
-  pub words-length : length (take size words) ≡ size
-  words-length = length-take-le size words (omega (arith, words-there, F .array))
-
+module _ {first buffer words : List ℕ} {size : ℕ} {t : Playback} {start end delivered : ℕ} (F : Fills first buffer words size t start end delivered) where
   -- the bytes that come next are in the buffer
   piece-there : length (between start end buffer) ≡ end - start
   piece-there = length-take-le (end - start) (drop start buffer) (omega (arith, length-drop start buffer, F .long, F .filled, F .ordered))
 
   -- and can be played
-  pub playable : Playable t (take size words) (length (between start end buffer))
-  playable = record { steady = F .steady; words = words-length ∙ F .sized; room = omega (arith, F .room, F .filled, piece-there) }
+  pub playable : delivered < 18446744073709551616 → Playable t (take size words) (length (between start end buffer))
+  playable few = record { steady = F .stored .steady; words = words-length (F .stored) ∙ F .stored .sized; room = omega (arith, F .every, piece-there) }
 
   -- ---- they are played
   module _ (to : Playback) (store : List ℕ) (bad : Bool) (played : PlayPromise t (take size words) (between start end buffer) to store bad)
@@ -123,58 +99,65 @@ module _ {buffer words : List ℕ} {size : ℕ} {t : Playback} {start end refill
     abbrev took : ℕ
     took = to .place - t .place
 
-    -- the words are still the first of an array of as many as before
-    words-kept : length store ≡ size
-    words-kept = carries .words ∙ ap (λ (k : ℕ). 8 * k) (carries .size) ∙ sym (F .sized)
-
-    -- the array
-    abbrev array : List ℕ
-    array = store ++ drop size words
-
-    -- has its length
-    pub array-kept : length array ≡ 256
-    array-kept = length-append store (drop size words) ∙ omega (arith, length-drop size words, words-kept, words-there, F .array)
-
-    -- and starts with the words
-    array-starts : take size array ≡ store
-    array-starts = ap (λ (k : ℕ). take k array) (sym words-kept) ∙ take-append-seam store (drop size words)
+    -- the words are still the first of an array
+    pub stored-after : Stored to size (array (F .stored) to store _ carries)
+    stored-after = stored-on (F .stored) to store _ carries
 
     -- what the input has come to
-    reached : Reached (F .along .head) (F .along .input ++ F .along .piece) bad to (take size array) (drop took (between start end buffer))
-    reached = rw (array-starts, F .along .there)
+    reached : Reached (F .along .head) (F .along .input ++ F .along .piece) bad to (take size (array (F .stored) to store _ carries)) (drop took (between start end buffer))
+    reached = rw (array-starts (F .stored) to store _ carries, F .along .there)
         (reached-more (F .along .head) (F .along .input) (F .along .piece) t to (take size words) store (F .along .rest) bad (F .along .reached) (subst (λ (l : List ℕ). PlayPromise t (take size words) l to store bad) (F .along .there) played))
 
-    -- nothing more is played
-    pub over : (left : ℕ) → left ≡ end - (start + took) → Over to (take size array) left
-    over left is = record {
-      head = F .along .head;
-      input = F .along .input ++ F .along .piece;
-      rest = drop took (between start end buffer);
-      bad = bad;
-      reached = reached;
-      long = length-drop took (between start end buffer) ∙ omega (arith, piece-there, is);
-    }
+    -- each byte was played or is left
+    pub left-over : (left : ℕ) → left ≡ end - (start + took) → to .place + left ≡ delivered
+    left-over left is = omega (arith, F .every, F .ordered, carries .onward, carries .within, piece-there, is)
 
-    -- or more is, with the buffer filled again
-    pub fills-on : bad ≡ false → (after : List ℕ) (filled left : ℕ) → left ≡ end - (start + took) → Refilled (start + took) end buffer after filled → 0 < refills → Fills after array size to 0 filled (refills - 1)
-    fills-on fine after filled left is again some-left = record {
-      steady = carries .steady;
+    -- nothing more is played: the text that ends it is that of the whole input
+    pub over : (left stop : ℕ) (before after : List ℕ) → left ≡ end - (start + took) → length before ≡ 4096
+        → ((head input rest : List ℕ) (bad : Bool) → Reached head input bad to (take size (array (F .stored) to store _ carries)) rest → length rest ≡ left → Printed (bondtrace (head ++ input)) longestEnd before after stop)
+        → Counts stop after × Told first delivered (take stop after)
+    over left stop before after is room ends =
+        let long : length (drop took (between start end buffer)) ≡ left = length-drop took (between start end buffer) ∙ omega (arith, piece-there, is) in
+        let printed = ends (F .along .head) (F .along .input ++ F .along .piece) _ bad reached long in
+        (printed .counts, record { more = F .along .more; counted = F .along .counted; told = inl (printed-whole printed (omega arith) ∙ ap bondtrace (F .along .whole)) })
+
+    -- short of an unlawful record
+    reached-fine : bad ≡ false → Reached (F .along .head) (F .along .input ++ F .along .piece) false to (take size (array (F .stored) to store _ carries)) (drop took (between start end buffer))
+    reached-fine fine = subst (λ (b : Bool). Reached (F .along .head) (F .along .input ++ F .along .piece) b to (take size (array (F .stored) to store _ carries)) (drop took (between start end buffer))) fine reached
+
+    -- there is room for more
+    pub has-room : bad ≡ false → (left : ℕ) → left ≡ end - (start + took) → left < length buffer
+    has-room fine left is =
+        let kept = reached-short (F .along .head) (F .along .input ++ F .along .piece) to (take size (array (F .stored) to store _ carries)) (drop took (between start end buffer)) (reached-fine fine) in
+        omega (arith, kept, length-drop took (between start end buffer), piece-there, is, F .long)
+
+    -- more is played, with the buffer filled again
+    pub fills-on : bad ≡ false → (after : List ℕ) (filled left counted : ℕ) → left ≡ end - (start + took) → Refilled (start + took) end buffer after filled
+        → counted + left ≡ delivered + filled → Fills first after (array (F .stored) to store _ carries) size to 0 filled counted
+    fills-on fine after filled left counted is again sum = record {
+      stored = stored-after;
       along = record {
         head = F .along .head;
         input = F .along .input ++ F .along .piece;
         rest = drop took (between start end buffer);
-        piece = drop left (take filled after);
-        reached = subst (λ (b : Bool). Reached (F .along .head) (F .along .input ++ F .along .piece) b to (take size array) (drop took (between start end buffer))) fine reached;
+        piece = new;
+        more = F .along .more ++ new;
+        reached = reached-fine fine;
         there = there;
+        whole = sym (append-assoc (F .along .head) (F .along .input ++ F .along .piece) new) ∙ ap (λ (l : List ℕ). l ++ new) (F .along .whole) ∙ append-assoc first (F .along .more) new;
+        counted = ap (λ (l : List ℕ). length l) (sym (append-assoc first (F .along .more) new)) ∙ length-append (first ++ F .along .more) new
+            ∙ omega (arith, F .along .counted, length-drop left (take filled after), length-take-le filled after (again .counts .0), sum);
       };
-      sized = F .sized ∙ ap (λ (k : ℕ). 8 * k) (sym (carries .size));
-      array = array-kept;
       long = again .long ∙ F .long;
       ordered = omega arith;
       filled = omega (arith, again .counts .0, again .long, F .long);
-      room = omega (arith, F .room, F .filled, carries .within, piece-there);
+      every = omega (arith, left-over left is, sum, again .more, is);
     }
       where
+        -- what was read
+        new : List ℕ
+        new = drop left (take filled after)
+
         -- what was left stands at the front
         front-kept : take left (take filled after) ≡ drop took (between start end buffer)
         front-kept =
@@ -183,21 +166,35 @@ module _ {buffer words : List ℕ} {size : ℕ} {t : Playback} {start end refill
             ∙ left-between start end took left buffer (sym is)
 
         -- and what was read behind it
-        there : between 0 filled after ≡ drop took (between start end buffer) ++ drop left (take filled after)
-        there = let all : filled - 0 ≡ filled = omega arith in ap (λ (k : ℕ). take k after) all ∙ sym (take-append-drop left (take filled after)) ∙ ap (λ (l : List ℕ). l ++ drop left (take filled after)) front-kept
+        there : between 0 filled after ≡ drop took (between start end buffer) ++ new
+        there = let all : filled - 0 ≡ filled = omega arith in ap (λ (k : ℕ). take k after) all ∙ sym (take-append-drop left (take filled after)) ∙ ap (λ (l : List ℕ). l ++ new) front-kept
 
--- a playback of a table record alone is near the start of its input
-pub starts-near : (t : Playback) → Starts t → t .place < 65536
-unfolding opened
-starts-near t starts = omega (arith, ap (λ (u : Playback). u .place) (starts .is))
+-- ---- what the reads gave, by their counts
+module _ (delivered counted left end : ℕ) (sum : counted + left ≡ delivered + end) where
+  -- nothing
+  pub nothing-read : end ≡ left → delivered ≡ counted
+  nothing-read e = omega arith
 
--- what opening returned is such a playback, if it is not refused
-pub opening-starts : (bytes : List ℕ) (t : Playback) → openRefusal bytes ≡ 0 → t ≡ opened (openSize bytes) → Starts t
-opening-starts bytes t accepted is = by (lawful true (front bytes))
-    (λ good. record {
-      head = front bytes;
-      lawfully = good;
-      made = ap makeRefusal (front-thread bytes) ∙ sym (opens bytes good) ∙ accepted;
-      is = is ∙ ap opened (opened-size bytes accepted ∙ sym (front-thread bytes));
-    })
-    (λ bad. let none : _≡_ {A = ℕ} 12 0 = sym (not-opened bytes bad) ∙ accepted in absurd (omega arith))
+  -- something, so fewer bytes are left to deliver
+  pub more-read : end ≢ left → left ≤ end → delivered < mostBytes → mostBytes - counted < mostBytes - delivered
+  more-read d least few = omega arith
+
+-- an input that is too long: that is said
+pub given-up : {first buffer words : List ℕ} {size : ℕ} {t : Playback} {start end delivered : ℕ} → Fills first buffer words size t start end delivered → mostBytes ≤ delivered
+    → (before after : List ℕ) (stop : ℕ) → length before ≡ 4096 → Written 0 tooLong before after stop → Counts stop after × Told first delivered (take stop after)
+unfolding tooLong ascii upTo
+given-up F many before after stop room written =
+    let said = printed {most = 15} written (omega arith) in
+    (said .counts, record { more = F .along .more; counted = F .along .counted; told = inr (printed-whole said (omega arith), many) })
+
+-- a table record that is refused: the text is settled, and nothing more is read
+pub refused-told : {bytes before after : List ℕ} {stop delivered : ℕ} → length bytes ≡ delivered → length before ≡ 4096
+    → ((more : List ℕ) → Settled bytes more → Printed (bondtrace (bytes ++ more)) longestEnd before after stop) → Counts stop after × Told bytes delivered (take stop after)
+refused-told {bytes} counted room told =
+    let printed = told [] (inr refl) in
+    (printed .counts, record { more = []; counted = ap (λ (l : List ℕ). length l) (append-nil bytes) ∙ counted; told = inl (printed-whole printed (omega arith)) })
+
+-- an input that starts with some bytes is an input, and its text is written from the front on
+pub some-input : (first out : List ℕ) (stop delivered : ℕ) → Told first delivered (take stop out) → Told [] delivered (between 0 stop out)
+some-input first out stop delivered T =
+    let all : stop - 0 ≡ stop = omega arith in rw all (record { more = first ++ T .more; counted = T .counted; told = T .told })

@@ -1,4 +1,1 @@
-pub mod Known
 pub mod Filling
-pub mod Ending
-pub mod Refusing

@@ -1,32 +1,21 @@
--- What the program knows of its input: some schedule starts with the bytes that have come in, and what was played is what has come of it.
+-- What is known of the text that is printed for an input: how it starts and how long it is, but not which bytes the operating system delivered.
 use mathlib.Core.Path.{_≡_}
 use mathlib.Core.Logic.{_⊎_}
-use mathlib.Core.Bool.{Bool, true}
-use mathlib.Core.List.{List, []}
+use mathlib.Core.List.{List, _++_}
 use Prim.Native.Nat.{ℕ, _≤_}
 use lib.ListN.{length}
-use Rattle.model.specs.Refusals.{makeRefusal}
-use Rattle.model.specs.RecordBytes.{threadByte, lawful}
-use Rattle.opening.specs.declared.Playback.{Playback}
-use Rattle.opening.specs.Opened.{opened}
-use Rattle.end_printing.specs.Known.{Reached}
+use Rattle.model.specs.Bondtrace.{ascii, bondtrace}
 
--- the playback is that of a lawful table record
-pub record Starts (t : Playback) : Type 0 where
-  pub head : List ℕ
-  pub lawfully : lawful true head ≡ true
-  pub made : makeRefusal (threadByte head) ≡ 0
-  pub is : t ≡ opened (threadByte head)
+-- an input of fewer bytes is played to its end: 2^63
+abbrev pub mostBytes : ℕ
+mostBytes = 9223372036854775808
 
--- nothing more is played, with this many bytes left
-pub record Over (t : Playback) (store : List ℕ) (left : ℕ) : Type 0 where
-  pub head : List ℕ
-  pub input : List ℕ
-  pub rest : List ℕ
-  pub bad : Bool
-  pub reached : Reached head input bad t store rest
-  pub long : length rest ≡ left
+-- what is printed of an input that is not
+unfoldable pub tooLong : List ℕ
+tooLong = ascii "input too long\n"
 
--- more may come behind these bytes and change nothing of the table record: they hold it, or nothing comes
-abbrev pub Settled : List ℕ → List ℕ → Type 0
-Settled bytes more = (4 ≤ length bytes) ⊎ (more ≡ [])
+-- the text of an input that starts with the first bytes and has as many as were delivered
+pub record Told (first : List ℕ) (delivered : ℕ) (text : List ℕ) : Type 0 where
+  pub more : List ℕ
+  pub counted : length (first ++ more) ≡ delivered
+  pub told : (text ≡ bondtrace (first ++ more)) ⊎ ((text ≡ tooLong) × (mostBytes ≤ delivered))

@@ -1,2 +1,1 @@
-pub mod Known
 pub mod Input

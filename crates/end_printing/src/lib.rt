@@ -1,122 +1,143 @@
 // What program bondtrace does, with any descriptor as its input: a schedule of any length is played in constant memory, and its end is printed.
 ghost use mathlib.Core.Path.{_≡_};
-ghost use mathlib.Core.Logic.{_≢_};
 ghost use mathlib.Core.Bool.{Bool};
-ghost use mathlib.Core.List.{List, _++_};
-ghost use Prim.Native.Nat.{ℕ, _≤_};
+ghost use mathlib.Core.List.{List, [], _++_};
+ghost use Prim.Native.Nat.{ℕ, _+_, _-_, _≤_, _<_};
 ghost use lib.ListN.{length, take};
-ghost use Rattle.io.specs.Counts.{Counts};
 ghost use Rattle.model.specs.Bondtrace.{bondtrace};
-ghost use Rattle.opening.specs.Opened.{openSize, openRefusal, opened, Steady};
-ghost use Rattle.end_printing.specs.Known.{Reached};
-ghost use Rattle.end_printing.specs.Input.{Starts, Over, Settled};
+ghost use Rattle.text.specs.Writing.{Counts, Printed};
+ghost use Rattle.refill.specs.Refilled.{Refilled};
+ghost use Rattle.opening.specs.Opened.{Steady};
+ghost use Rattle.played_text.specs.Known.{Reached, Starts, longestEnd};
+ghost use Rattle.end_printing.specs.Input.{Told};
 use libc::STDOUT_FILENO;
-use opening::Opened;
 use opening::Playback;
 
-// How often the buffer is filled at most: with 65,536 bytes each time, no counter comes near its end.
-const MOST_REFILLS: u64 = 140737488355328;
+// An input is played up to so many bytes: 2^63. No count comes near its end.
+const MOST_BYTES: u64 = 9223372036854775808;
 
-// The text for a playback behind which some bytes are left, or none, when nothing more is played.
-fn end_text(playback: Playback, store: &[u32], left: usize, out: &mut [u8]) -> usize
-    requires { ⌜ Steady playback ⌝ }
-    requires { ⌜ length (now out) ≡ 4096 ⌝ }
-    ensures counts { λ r. ⌜ Counts r (now (out .exit)) ⌝ }
-    ensures text { λ r. ⌜ ((head input rest : List ℕ) (bad : Bool) → Reached head input bad playback (now (store .entry)) rest → length rest ≡ left → take r (now (out .exit)) ≡ bondtrace (head ++ input)) ⌝ }
+// What the reads have given: where the bytes in the buffer end, and how many were delivered in all.
+struct Supply {
+    end: usize,
+    delivered: u64,
+}
+
+// A text of so many bytes, and how many bytes of input were delivered for it.
+struct Ended {
+    length: usize,
+    delivered: u64,
+}
+
+// Moves the bytes from start on down to the front and reads behind them. There is room, so that where nothing was read, the input has ended or cannot be read.
+fn supplied(input: i32, buffer: &mut [u8], start: usize, before: Supply) -> Supply
+    requires { ⌜ start ≤ before .end ⌝ }
+    requires { ⌜ before .end ≤ length (now buffer) ⌝ }
+    requires { ⌜ before .end - start < length (now buffer) ⌝ }
+    requires { ⌜ before .delivered + length (now buffer) < 18446744073709551616 ⌝ }
+    ensures filled { λ r. ⌜ Refilled start (before .end) (now (buffer .entry)) (now (buffer .exit)) (r .end) ⌝ }
+    ensures counted { λ r. ⌜ r .delivered + (before .end - start) ≡ before .delivered + r .end ⌝ }
 {
-    if left != 0 {
-        return printing::bad_line(reading::BAD_RECORD, playback.place, out);
+    let rest = before.end - start;
+    let end = refill::refill(input, buffer, start, before.end);
+    Supply {
+        end: end,
+        delivered: before.delivered + (end - rest) as u64,
     }
-    let table = playback.table;
-    printing::final_text(table, store, playback.records, playback.refused, out)
 }
 
-// Prints that text.
-fn print_end(playback: Playback, store: &[u32], left: usize)
+// The text when nothing more is played: each byte that was delivered was played or is left.
+fn end_of(playback: Playback, store: &[u32], left: usize, delivered: u64, out: &mut [u8]) -> Ended
     requires { ⌜ Steady playback ⌝ }
-    requires { ⌜ Over playback (now store) left ⌝ }
+    requires { ⌜ playback .place + left ≡ delivered ⌝ }
+    ensures counted { λ r. ⌜ r .delivered ≡ delivered ⌝ }
+    ensures text { λ r. ⌜ ((head input rest : List ℕ) (bad : Bool) → Reached head input bad playback (now (store .entry)) rest → length rest ≡ left → Printed (bondtrace (head ++ input)) longestEnd (now (out .entry)) (now (out .exit)) (r .length)) ⌝ }
 {
-    let mut out = io::buffer();
-    let n = end_text(playback, store, left, &mut out);
-    io::write_all(STDOUT_FILENO, &out[..n]);
-}
-
-// The text where the table record at the front of the bytes is refused by this number.
-fn refused_text(number: u8, bytes: &[u8], out: &mut [u8]) -> usize
-    requires { ⌜ number ≡ openRefusal (now bytes) ⌝ }
-    requires { ⌜ number ≢ 0 ⌝ }
-    requires { ⌜ length (now out) ≡ 4096 ⌝ }
-    ensures counts { λ r. ⌜ Counts r (now (out .exit)) ⌝ }
-    ensures text { λ r. ⌜ ((more : List ℕ) → Settled (now (bytes .entry)) more → take r (now (out .exit)) ≡ bondtrace (now (bytes .entry) ++ more)) ⌝ }
-{
-    printing::bad_line(number, 0, out)
-}
-
-// Prints that text.
-fn print_refused(number: u8, bytes: &[u8])
-    requires { ⌜ number ≡ openRefusal (now bytes) ⌝ }
-    requires { ⌜ number ≢ 0 ⌝ }
-{
-    let mut out = io::buffer();
-    let n = refused_text(number, bytes, &mut out);
-    io::write_all(STDOUT_FILENO, &out[..n]);
-}
-
-// Reads the table record at the front of the bytes; where it is refused, prints that.
-fn open_input(bytes: &[u8]) -> Opened
-    ensures number { λ r. ⌜ r .number ≡ openRefusal (now (bytes .entry)) ⌝ }
-    ensures playback { λ r. ⌜ r .playback ≡ opened (openSize (now (bytes .entry))) ⌝ }
-    ensures steady { λ r. ⌜ (r .number ≡ 0 → (4 ≤ length (now (bytes .entry))) × Steady (r .playback)) ⌝ }
-{
-    let opening = opening::open(bytes);
-    if opening.number != 0 {
-        print_refused(opening.number, bytes);
+    let length = played_text::end_text(playback, store, left, out);
+    Ended {
+        length: length,
+        delivered: delivered,
     }
-    opening
 }
 
-// Plays what stands in the buffer behind the table record, and the rest of the input.
-fn play_on(input: i32, opened: Playback, buffer: &mut [u8], filled: usize)
+// Plays what stands in the buffer behind the table record, and the rest of the input; the text of it all.
+fn play_on(input: i32, opened: Playback, buffer: &mut [u8], first: Supply, out: &mut [u8]) -> Ended
     requires { ⌜ Steady opened ⌝ }
-    requires { ⌜ Starts opened ⌝ }
+    requires { ⌜ Starts opened (take (first .end) (now buffer)) ⌝ }
+    requires { ⌜ first .delivered ≡ first .end ⌝ }
+    requires { ⌜ first .end ≤ 65536 ⌝ }
     requires { ⌜ length (now buffer) ≡ 65536 ⌝ }
-    requires { ⌜ (4 ≤ filled) × (filled ≤ 65536) ⌝ }
+    requires { ⌜ length (now out) ≡ 4096 ⌝ }
+    ensures counts { λ r. ⌜ Counts (r .length) (now (out .exit)) ⌝ }
+    ensures told { λ r. ⌜ Told (take (first .end) (now (buffer .entry))) (r .delivered) (take (r .length) (now (out .exit))) ⌝ }
 {
     let mut words = [0u32; 256];
     let size = 8 * (opened.table.n as usize);
     let mut playback = opened;
     let mut start = reading::HEAD_BYTES;
-    let mut end = filled;
-    let mut refills = MOST_REFILLS;
-    while 0 < refills {
-        refills -= 1;
+    let mut supply = first;
+    while supply.delivered < MOST_BYTES {
         let before = playback.place;
+        let end = supply.end;
         let played = playing::play(playback, &mut words[..size], &buffer[start..end]);
         playback = played.playback;
         let next = start + (playback.place - before) as usize;
         let left = end - next;
         if played.bad {
-            print_end(playback, &words[..size], left);
-            return;
+            return end_of(playback, &words[..size], left, supply.delivered, out);
         }
-        end = refill::refill(input, buffer, next, end);
+        supply = supplied(input, buffer, next, supply);
         start = 0;
-        if end == left {
-            print_end(playback, &words[..size], left);
-            return;
+        if supply.end == left {
+            return end_of(playback, &words[..size], left, supply.delivered, out);
         }
+    }
+    let length = text::put_text(out, 0, b"input too long\n");
+    Ended {
+        length: length,
+        delivered: supply.delivered,
     }
 }
 
-// Plays the schedule that a descriptor delivers.
+// The text of the input that starts with the bytes in the buffer.
+fn text_of_input(input: i32, buffer: &mut [u8], first: Supply, out: &mut [u8]) -> Ended
+    requires { ⌜ first .delivered ≡ first .end ⌝ }
+    requires { ⌜ first .end ≤ 65536 ⌝ }
+    requires { ⌜ length (now buffer) ≡ 65536 ⌝ }
+    requires { ⌜ length (now out) ≡ 4096 ⌝ }
+    ensures counts { λ r. ⌜ Counts (r .length) (now (out .exit)) ⌝ }
+    ensures told { λ r. ⌜ Told (take (first .end) (now (buffer .entry))) (r .delivered) (take (r .length) (now (out .exit))) ⌝ }
+{
+    let end = first.end;
+    let opened = opening::open(&buffer[..end]);
+    if opened.number != 0 {
+        let length = played_text::refused_text(opened.number, &buffer[..end], out);
+        return Ended {
+            length: length,
+            delivered: first.delivered,
+        };
+    }
+    let playback = opened.playback;
+    play_on(input, playback, buffer, first, out)
+}
+
+// Prints a text: that of some input of so many bytes.
+fn print_text(text: &[u8], delivered: u64)
+    requires { ⌜ Told [] delivered (now text) ⌝ }
+{
+    io::write_all(STDOUT_FILENO, text);
+}
+
+// Plays the schedule that a descriptor delivers, and prints how it ends.
 pub fn run(input: i32) {
     let mut space = io::large_buffer();
     let buffer: &mut [u8] = &mut space;
-    let filled = io::read_full(input, buffer);
-    let opened = open_input(&buffer[..filled]);
-    if opened.number != 0 {
-        return;
-    }
-    let playback = opened.playback;
-    play_on(input, playback, buffer, filled);
+    let mut out = io::buffer();
+    let nothing = Supply {
+        end: 0,
+        delivered: 0,
+    };
+    let first = supplied(input, buffer, 0, nothing);
+    let ended = text_of_input(input, buffer, first, &mut out);
+    let stop = ended.length;
+    print_text(&out[0..stop], ended.delivered);
 }

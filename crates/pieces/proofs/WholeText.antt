@@ -59,6 +59,10 @@ module _ (input : List ℕ) (rules : lawful true (front input) ≡ true) where
       let kind : kindByte (front input) ≡ tableKind = eqb-true (kindByte (front input)) tableKind (sym (alike-read true _ (all-of-read _ rules .1 .1 .1 .0))) in
       lawful-length true (front input) rules ∙ rw kind refl
 
+  -- the first four
+  pub front-four : take 4 input ≡ front input
+  front-four = ap (take 4) (sym (front-and-behind input)) ∙ take-at (front input) (behind input) 4 table-length
+
   -- its thread byte is that of the input
   thread-byte : recordOf (front input) .thread ≡ threadByte input
   unfolding recordOf
@@ -89,10 +93,6 @@ module _ (bytes more : List ℕ) (four : 4 ≤ length bytes) where
   -- bytes that go on have the same first four
   first-four : take 4 (bytes ++ more) ≡ take 4 bytes
   first-four = take-append-le 4 bytes more four
-
-  -- a lawful table record is these four
-  front-four : (input : List ℕ) → lawful true (front input) ≡ true → take 4 input ≡ front input
-  front-four input rules = ap (take 4) (sym (front-and-behind input)) ∙ take-at (front input) (behind input) 4 (table-length input rules)
 
   -- where they are lawful, they are the record at the front
   four-front : lawful true (take 4 bytes) ≡ true → front bytes ≡ take 4 bytes

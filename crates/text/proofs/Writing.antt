@@ -73,6 +73,10 @@ written-counts {after = after} {stop} w = let inside : stop ≤ length after = o
 pub printed : {text before after : List ℕ} {stop most : ℕ} → Written 0 text before after stop → length text ≤ most → Printed text most before after stop
 printed w short = record { written = w; counts = written-counts w; short = short }
 
+-- it may be known by another name, and be allowed more bytes
+pub printed-as : {text other before after : List ℕ} {stop most more : ℕ} → text ≡ other → most ≤ more → Printed text most before after stop → Printed other more before after stop
+printed-as same wider p = rw (sym same) (record { written = p .written; counts = p .counts; short = omega (arith, p .short) })
+
 -- where the bytes are as many as it has at most, all of it is written
 pub printed-whole : {text before after : List ℕ} {stop most : ℕ} → Printed text most before after stop → most ≤ length before → take stop after ≡ text
 printed-whole {text} {before} {after} {stop} p room =

@@ -1,38 +1,56 @@
-use lib.Seq.{length-take-le}
+use mathlib.Core.Path.{_≡_, refl, sym, _∙_}
+use Prim.Native.Nat.{ℕ, _-_}
 use native.Mathlib.Omega.{arith}
-use mathlib.Core.Path.{refl, sym, _∙_}
+use lib.ListN.{length, take}
 use borrow.Author.Needs.{needs}
-use Rattle.end_printing.proofs.Filling.{Fills, fills-first, words-there, words-length, playable, array-kept, over, fills-on, starts-near}
+use Rattle.model.specs.Lists.{upTo}
+use Rattle.model.specs.Bondtrace.{ascii}
+use Rattle.played_text.proofs.Stores.{words-there, words-length}
+use Rattle.end_printing.specs.Input.{mostBytes, tooLong}
+use Rattle.end_printing.proofs.Filling.{Fills, fills-first, playable, stored-after, left-over, over, has-room, fills-on, nothing-read, more-read, given-up}
 use Rattle.end_printing.proofs.play_on.Statement.{statement}
 use Rattle.end_printing.proofs.play_on.Tie as tie
 
+-- each time round: the bytes in the buffer come next, and the text's bytes are all there
 abbrev Inv-loop : tie.InvT-loop
-Inv-loop input buffer₀ filled words₀ size playback₀ start₀ end₀ refills₀ buffer words playback start end refills = Fills buffer words size playback start end refills
+Inv-loop input buffer₀ out₀ words₀ size playback₀ start₀ supply₀ t17 buffer out words playback start supply =
+    Fills (take (supply₀ .end) buffer₀) buffer words size playback start (supply .end) (supply .delivered) × (length out ≡ 4096)
 
+-- each time round more was delivered
 abbrev μ-loop : tie.MeasureT-loop
-μ-loop input buffer₀ filled words₀ size playback₀ start₀ end₀ refills₀ buffer words playback start end refills = refills
+μ-loop input buffer₀ out₀ words₀ size playback₀ start₀ supply₀ t17 buffer out words playback start supply = mostBytes - supply .delivered
 
-cast-size : tie.Need-cast-size Inv-loop μ-loop
-cast-size c = search needs
+-- ---- the places of the code from which the needs below speak
+-- the top of the loop
+abbrev Top : Type 0
+Top = tie.At-loop Inv-loop μ-loop
 
-mul-size : tie.Need-mul-size Inv-loop μ-loop
-mul-size c = search needs
+-- records were played
+abbrev Played : Type 0
+Played = tie.After-play Inv-loop μ-loop
+
+abbrev top : Played → Top
+top p = p .before .before .before .before .before .before
+
+-- there, what was asked at the entry
+abbrev asked-length : (p : Top) → length (p .before .before .before .before .args .buffer .now) ≡ 65536
+asked-length p = p .before .before .before .before .pre .1 .1 .1 .1 .0
+
+abbrev asked-room : (p : Top) → length (p .before .before .before .before .args .out .now) ≡ 4096
+asked-room p = p .before .before .before .before .pre .1 .1 .1 .1 .1
 
 loop-holds : tie.Need-loop-holds Inv-loop μ-loop
 loop-holds c =
-    let asked = c .before .before .pre in
-    fills-first _ _ _ _ _ (asked .0) (asked .1 .0) refl refl (asked .1 .1 .0) (asked .1 .1 .1) (starts-near _ (asked .1 .0))
-
-sub-refills : tie.Need-sub-refills Inv-loop μ-loop
-sub-refills c = search needs
+    let asked = c .before .before .before .pre in
+    (fills-first _ _ _ _ _ (asked .0) (asked .1 .0) refl (asked .1 .1 .1 .1 .0) (asked .1 .1 .1 .0) (asked .1 .1 .0), asked .1 .1 .1 .1 .1)
 
 array-borrow-prefix-words : tie.Need-array-borrow-prefix-words Inv-loop μ-loop
 array-borrow-prefix-words c =
-    let so-far = c .before .loop .inv in
-    omega (arith, words-there so-far, so-far .array)
+    let S = c .before .before .loop .inv .0 .stored in omega (arith, words-there S, S .array)
 
 slice-aggregate-play : tie.Need-slice-aggregate-play Inv-loop μ-loop
-slice-aggregate-play c = sym (words-length (c .before .before .loop .inv))
+slice-aggregate-play c =
+    sym (words-length (c .before .before .before .loop .inv .0 .stored))
 
 sub-play : tie.Need-sub-play Inv-loop μ-loop
 sub-play c = search needs
@@ -44,7 +62,8 @@ part-play-end : tie.Need-part-play-end Inv-loop μ-loop
 part-play-end c = search needs
 
 play-requires : tie.Need-play-requires Inv-loop μ-loop
-play-requires c κs = playable (c .before .before .before .before .loop .inv)
+play-requires c κs =
+    playable (c .before .before .before .before .before .loop .inv .0) (omega (arith, c .before .before .before .if1 .taken))
 
 sub-next : tie.Need-sub-next Inv-loop μ-loop
 sub-next c = search needs
@@ -57,66 +76,89 @@ sub-left c = search needs
 
 array-share-prefix-words : tie.Need-array-share-prefix-words Inv-loop μ-loop
 array-share-prefix-words c =
-    let so-far = c .before .before .before .before .before .before .before .before .before .loop .inv in
-    let play-tells = c .before .before .before .before .play .ensures in
-    omega (arith, array-kept so-far _ _ _ (play-tells .0) (play-tells .1), words-there so-far)
+    let p = c .before .before .before .before in
+    let S = stored-after (top p .loop .inv .0) _ _ _ (p .play .ensures .0) (p .play .ensures .1) in
+    omega (arith, words-there S, S .array)
 
-slice-aggregate-print-end : tie.Need-slice-aggregate-print-end Inv-loop μ-loop
-slice-aggregate-print-end c =
-    let so-far = c .before .before .before .before .before .before .before .before .before .before .loop .inv in
-    let play-tells = c .before .before .before .before .before .play .ensures in
-    sym (length-take-le _ _ (omega (arith, array-kept so-far _ _ _ (play-tells .0) (play-tells .1), words-there so-far)))
+slice-aggregate-end-of : tie.Need-slice-aggregate-end-of Inv-loop μ-loop
+slice-aggregate-end-of c =
+    let p = c .before .before .before .before .before in sym (words-length (stored-after (top p .loop .inv .0) _ _ _ (p .play .ensures .0) (p .play .ensures .1)))
 
-print-end-requires : tie.Need-print-end-requires Inv-loop μ-loop
-print-end-requires c κs =
-    let play-tells = c .before .before .before .before .before .play .ensures in
-    (play-tells .1 .steady, over (c .before .before .before .before .before .before .before .before .before .before .loop .inv) _ _ _ (play-tells .0) (play-tells .1) _ refl)
+end-of-requires : tie.Need-end-of-requires Inv-loop μ-loop
+end-of-requires c κs =
+    let p = c .before .before .before .before .before .before in (p .play .ensures .1 .steady, left-over (top p .loop .inv .0) _ _ _ (p .play .ensures .0) (p .play .ensures .1) _ refl)
 
 same-length : tie.Need-same-length Inv-loop μ-loop
-same-length c = search needs
+same-length c =
+    let p = c .before .before .before .before .before .before .before .before .before in top p .loop .inv .0 .long ∙ sym (asked-length (top p))
+
+same-length-2 : tie.Need-same-length-2 Inv-loop μ-loop
+same-length-2 c =
+    let p = c .before .before .before .before .before .before .before .before .before in c .before .before .end-of .kept .1 .1 .1 .1 .0 ∙ top p .loop .inv .1 ∙ sym (asked-room (top p))
 
 returns : tie.Need-returns Inv-loop μ-loop
-returns c = search needs
+returns c =
+    let p = c .before .before .before .before .before .before .before .before .before in
+    let ends = c .before .before .end-of .ensures in
+    rw (ends .0) (over (top p .loop .inv .0) _ _ _ (p .play .ensures .0) (p .play .ensures .1) _ _ _ _ refl (top p .loop .inv .1) (ends .1))
 
-refill-requires : tie.Need-refill-requires Inv-loop μ-loop
-refill-requires c κs = search needs
+supplied-requires : tie.Need-supplied-requires Inv-loop μ-loop
+supplied-requires c κs =
+    let p = c .before .before .before .before .before in
+    let F = top p .loop .inv .0 in
+    (search needs, (search needs, (has-room F _ _ _ (p .play .ensures .0) (p .play .ensures .1) (c .before .if2 .left) _ refl, omega (arith, F .long, p .before .before .before .before .if1 .taken))))
 
 array-share-prefix-words-2 : tie.Need-array-share-prefix-words-2 Inv-loop μ-loop
 array-share-prefix-words-2 c =
-    let so-far = c .before .before .before .before .before .before .before .before .before .before .before .before .before .before .loop .inv in
-    let play-tells = c .before .before .before .before .before .before .before .before .before .play .ensures in
-    omega (arith, array-kept so-far _ _ _ (play-tells .0) (play-tells .1), words-there so-far)
+    let p = c .before .before .before .before .before .before .before .before .before .before in
+    let S = stored-after (top p .loop .inv .0) _ _ _ (p .play .ensures .0) (p .play .ensures .1) in
+    omega (arith, words-there S, S .array)
 
-slice-aggregate-print-end-2 : tie.Need-slice-aggregate-print-end-2 Inv-loop μ-loop
-slice-aggregate-print-end-2 c =
-    let so-far = c .before .before .before .before .before .before .before .before .before .before .before .before .before .before .before .loop .inv in
-    let play-tells = c .before .before .before .before .before .before .before .before .before .before .play .ensures in
-    sym (length-take-le _ _ (omega (arith, array-kept so-far _ _ _ (play-tells .0) (play-tells .1), words-there so-far)))
+slice-aggregate-end-of-2 : tie.Need-slice-aggregate-end-of-2 Inv-loop μ-loop
+slice-aggregate-end-of-2 c =
+    let p = c .before .before .before .before .before .before .before .before .before .before .before in sym (words-length (stored-after (top p .loop .inv .0) _ _ _ (p .play .ensures .0) (p .play .ensures .1)))
 
-print-end-requires-2 : tie.Need-print-end-requires-2 Inv-loop μ-loop
-print-end-requires-2 c κs =
-    let play-tells = c .before .before .before .before .before .before .before .before .before .before .play .ensures in
-    (play-tells .1 .steady, over (c .before .before .before .before .before .before .before .before .before .before .before .before .before .before .before .loop .inv) _ _ _ (play-tells .0) (play-tells .1) _ refl)
+end-of-requires-2 : tie.Need-end-of-requires-2 Inv-loop μ-loop
+end-of-requires-2 c κs =
+    let p = c .before .before .before .before .before .before .before .before .before .before .before .before in
+    (p .play .ensures .1 .steady, left-over (top p .loop .inv .0) _ _ _ (p .play .ensures .0) (p .play .ensures .1) _ refl ∙ nothing-read _ _ _ _ (c .before .before .before .before .before .before .supplied .ensures .1) (c .before .before .if3 .taken))
 
-same-length-2 : tie.Need-same-length-2 Inv-loop μ-loop
-same-length-2 c = c .before .before .before .before .before .refill .ensures .long ∙ c .before .before .before .before .before .before .before .before .before .before .before .before .before .before .before .before .loop .inv .long ∙ sym (c .before .before .before .before .before .before .before .before .before .before .before .before .before .before .before .before .before .before .before .pre .1 .1 .0)
+same-length-3 : tie.Need-same-length-3 Inv-loop μ-loop
+same-length-3 c =
+    let p = c .before .before .before .before .before .before .before .before .before .before .before .before .before .before .before in c .before .before .before .before .before .before .before .before .before .supplied .ensures .0 .long ∙ top p .loop .inv .0 .long ∙ sym (asked-length (top p))
+
+same-length-4 : tie.Need-same-length-4 Inv-loop μ-loop
+same-length-4 c =
+    let p = c .before .before .before .before .before .before .before .before .before .before .before .before .before .before .before in c .before .before .end-of2 .kept .1 .1 .1 .1 .0 ∙ top p .loop .inv .1 ∙ sym (asked-room (top p))
 
 returns-2 : tie.Need-returns-2 Inv-loop μ-loop
-returns-2 c = search needs
+returns-2 c =
+    let p = c .before .before .before .before .before .before .before .before .before .before .before .before .before .before .before in
+    let ends = c .before .before .end-of2 .ensures in
+    rw (ends .0, sym (nothing-read _ _ _ _ (c .before .before .before .before .before .before .before .before .before .supplied .ensures .1) (c .before .before .before .before .before .if3 .taken))) (over (top p .loop .inv .0) _ _ _ (p .play .ensures .0) (p .play .ensures .1) _ _ _ _ refl (top p .loop .inv .1) (ends .1))
 
 loop-less : tie.Need-loop-less Inv-loop μ-loop
-loop-less c = search needs
+loop-less c =
+    more-read _ _ _ _ (c .before .before .before .before .supplied .ensures .1) (c .if3 .left) (c .before .before .before .before .supplied .ensures .0 .more) (omega (arith, c .before .before .before .before .before .before .before .before .before .before .before .before .before .before .if1 .taken))
 
 loop-again : tie.Need-loop-again Inv-loop μ-loop
 loop-again c =
-    let play-tells = c .before .before .before .before .before .before .before .before .before .play .ensures in
-    fills-on (c .before .before .before .before .before .before .before .before .before .before .before .before .before .before .loop .inv) _ _ _ (play-tells .0) (play-tells .1) (c .before .before .before .before .before .if1 .left) _ _ _ refl (c .before .before .before .refill .ensures) (search needs)
+    let p = c .before .before .before .before .before .before .before .before .before .before in
+    let F = top p .loop .inv .0 in
+    (fills-on F _ _ _ (p .play .ensures .0) (p .play .ensures .1) (c .before .before .before .before .before .before .if2 .left) _ _ _ _ refl (c .before .before .before .before .supplied .ensures .0) (c .before .before .before .before .supplied .ensures .1), top p .loop .inv .1)
 
-same-length-3 : tie.Need-same-length-3 Inv-loop μ-loop
-same-length-3 c = search needs
+same-length-5 : tie.Need-same-length-5 Inv-loop μ-loop
+same-length-5 c =
+    let p : Top = c .before .before .before .before .before .before .before in p .loop .inv .0 .long ∙ sym (asked-length p)
+
+same-length-6 : tie.Need-same-length-6 Inv-loop μ-loop
+same-length-6 c =
+    let p : Top = c .before .before .before .before .before .before .before in c .before .before .put-text .kept .0 ∙ p .loop .inv .1 ∙ sym (asked-room p)
 
 returns-3 : tie.Need-returns-3 Inv-loop μ-loop
-returns-3 c = search needs
+unfolding tooLong ascii upTo
+returns-3 c =
+    let p : Top = c .before .before .before .before .before .before .before in given-up (p .loop .inv .0) (c .before .before .before .before .before .if1 .left) _ _ _ (p .loop .inv .1) (c .before .before .put-text .ensures)
 
 pub play-on-spec : {M : Type 1} → statement M
 play-on-spec =
@@ -124,10 +166,9 @@ play-on-spec =
     (tie.spec
     Inv-loop
     μ-loop
-    cast-size
-    mul-size
+    (λ c. search needs)
+    (λ c. search needs)
     loop-holds
-    sub-refills
     array-borrow-prefix-words
     slice-aggregate-play
     sub-play
@@ -138,17 +179,22 @@ play-on-spec =
     add-next
     sub-left
     array-share-prefix-words
-    slice-aggregate-print-end
-    print-end-requires
+    slice-aggregate-end-of
+    end-of-requires
     same-length
-    returns
-    refill-requires
-    array-share-prefix-words-2
-    slice-aggregate-print-end-2
-    print-end-requires-2
     same-length-2
+    returns
+    supplied-requires
+    array-share-prefix-words-2
+    slice-aggregate-end-of-2
+    end-of-requires-2
+    same-length-3
+    same-length-4
     returns-2
     loop-less
     loop-again
-    same-length-3
+    (λ c. search needs)
+    (λ c κs. search needs)
+    same-length-5
+    same-length-6
     returns-3)

@@ -1,21 +1,27 @@
 -- What playing promises, piece by piece, comes to what the model prints of the whole input.
-use mathlib.Core.Path.{_≡_, sym, ap, _∙_, subst}
+use mathlib.Core.Path.{_≡_, refl, sym, ap, _∙_, subst}
 use mathlib.Core.Bool.{Bool, true, false, cond}
 use mathlib.Core.List.{List, [], _++_}
-use Prim.Native.Nat.{ℕ, _+_, _-_, _*_}
+use Prim.Native.Nat.{ℕ, _+_, _-_, _*_, _≤_, _<_}
 use native.Mathlib.Omega.{arith}
-use lib.ListN.{drop, replicate}
+use lib.ListN.{length, drop, replicate}
 use Rattle.model.specs.Refusals.{makeRefusal}
-use Rattle.model.specs.RecordBytes.{threadByte, lawful}
+use Rattle.model.specs.RecordBytes.{longestRecord, threadByte, lawful}
 use Rattle.model.specs.Schedule.{isEmpty}
 use Rattle.model.specs.Bondtrace.{started, finalText, badLine, bondtrace}
+use Rattle.model.proofs.Tested.{formed-few}
 use Rattle.pieces.specs.Playing.{Progress, ahead, playedOn}
 use Rattle.pieces.specs.Pieces.{fresh, nextPiece, KeepsPace, endText}
+use Rattle.pieces.proofs.Ends.{left-short}
 use Rattle.pieces.proofs.Pieces.{pace-fresh, pace-next, pace-text}
 use Rattle.opening.specs.declared.Playback.{Playback}
 use Rattle.playing.specs.Playback.{tallyOf, PlayPromise}
-use Rattle.opening.specs.Opened.{opened}
-use Rattle.end_printing.specs.Known.{known, Reached}
+use Rattle.opening.specs.Opened.{opened, Steady}
+use Rattle.played_text.specs.Known.{known, Reached}
+
+-- a playback that can go on has at most 32 threads
+pub steady-few : (t : Playback) → Steady t → t .table .n ≤ 32
+steady-few t steady = formed-few (t .table) (steady .checked .formed)
 
 -- behind the table record nothing has come yet
 pub reached-first : (head : List ℕ) → lawful true head ≡ true → makeRefusal (threadByte head) ≡ 0
@@ -64,3 +70,11 @@ unfolding known endText
 reached-text head input bad t store rest r =
     pace-text head input (known bad t store rest) (r .lawfully) (r .made) (r .paced)
     ∙ ap (λ (k : ℕ). cond (isEmpty rest) (finalText (tallyOf t store)) (badLine 12 k)) (omega (arith, r .behind))
+
+-- short of an unlawful record, fewer bytes are kept than the longest record has
+pub reached-short : (head input : List ℕ) (t : Playback) (store rest : List ℕ) → Reached head input false t store rest → length rest < longestRecord
+unfolding known
+reached-short head input t store rest r =
+    let same = r .paced .same in
+    subst (λ (l : List ℕ). length l < longestRecord) (sym (r .paced .kept refl ∙ ap (λ (q : Progress). drop (q .taken) input) same))
+    (left-short (started (threadByte head)) input (ap (λ (q : Progress). q .bad) (sym same)))

@@ -1,7 +1,7 @@
 use borrow.Author.Needs.{needs}
-use Rattle.end_printing.proofs.Ending.{bad-written, end-written}
-use Rattle.end_printing.proofs.end_text.Statement.{statement}
-use Rattle.end_printing.proofs.end_text.Tie as tie
+use Rattle.played_text.proofs.Ending.{bad-written, end-written}
+use Rattle.played_text.proofs.end_text.Statement.{statement}
+use Rattle.played_text.proofs.end_text.Tie as tie
 
 bad-line-requires : tie.Need-bad-line-requires
 bad-line-requires c κs = search needs
@@ -12,7 +12,7 @@ same-length c = search needs
 returns : tie.Need-returns
 returns c =
     let bad-line-tells = c .before .before .bad-line .ensures in
-    (bad-line-tells .counts, bad-written _ _ _ _ _ _ (c .before .before .before .before .before .before .before .pre .1) (c .before .before .before .before .if1 .taken) bad-line-tells)
+    bad-written _ _ _ _ _ _ (c .before .before .before .before .if1 .taken) bad-line-tells
 
 final-text-requires : tie.Need-final-text-requires
 final-text-requires c κs = search needs
@@ -24,7 +24,7 @@ returns-2 : tie.Need-returns-2
 returns-2 c =
     let final-text-tells = c .before .before .final-text .ensures in
     let asked = c .before .before .before .before .before .before .before .before .pre in
-    (final-text-tells .counts, end-written _ _ _ _ _ _ (asked .1) (c .before .before .before .before .before .if1 .left) (asked .0) final-text-tells)
+    end-written _ _ _ _ _ _ (c .before .before .before .before .before .if1 .left) asked final-text-tells
 
 pub end-text-spec : {M : Type 1} → statement M
 end-text-spec =

@@ -2,10 +2,10 @@
 use mathlib.Core.Path.{_≡_, refl, sym, ap, _∙_}
 use mathlib.Core.Logic.{_≢_, inl, inr}
 use mathlib.Core.Bool.{true}
-use mathlib.Core.List.{List, _++_, append-nil}
+use mathlib.Core.List.{List, [], _++_, append-nil}
 use Prim.Native.Nat.{ℕ, zero, suc, _≤_}
 use native.Mathlib.Omega.{arith}
-use lib.ListN.{length, take, List·getD-append}
+use lib.ListN.{length, List·getD-append}
 use Rattle.model.specs.RecordBytes.{threadByte, lawful}
 use Rattle.model.specs.Decoding.{front}
 use Rattle.model.specs.Refusals.{unless, makeRefusal}
@@ -18,8 +18,8 @@ use Rattle.opening.specs.Opened.{openRefusal}
 use Rattle.opening.proofs.Opening.{not-opened, opens}
 use Rattle.printing.specs.Texts.{longestBadLine}
 use Rattle.text.specs.Writing.{Printed}
-use Rattle.text.proofs.Writing.{printed-whole}
-use Rattle.end_printing.specs.Input.{Settled}
+use Rattle.text.proofs.Writing.{printed-as}
+use Rattle.played_text.specs.Known.{Settled, longestEnd}
 
 -- what is returned where there is a refusal
 unless-refused : (g : ℕ) (f : ℕ → List ℕ) (a : List ℕ) → g ≢ 0 → unless g f a ≡ f g
@@ -46,7 +46,11 @@ refused-line bytes more (inl four) d = whole-refused (bytes ++ more) (λ none. d
 refused-line bytes more (inr none) d = rw (none, append-nil bytes) (whole-refused bytes d)
 
 -- the line that is written is this one
-pub refused-written : (bytes before after : List ℕ) (number stop : ℕ) → length before ≡ 4096 → number ≡ openRefusal bytes → number ≢ 0
-    → Printed (badLine number 0) longestBadLine before after stop → (more : List ℕ) → Settled bytes more → take stop after ≡ bondtrace (bytes ++ more)
-refused-written bytes before after number stop room is d printed more settled =
-    printed-whole printed (omega (arith, room)) ∙ ap (λ (g : ℕ). badLine g 0) is ∙ sym (refused-line bytes more settled (λ none. d (is ∙ none)))
+pub refused-written : (bytes before after : List ℕ) (number stop : ℕ) → number ≡ openRefusal bytes → number ≢ 0
+    → Printed (badLine number 0) longestBadLine before after stop → (more : List ℕ) → Settled bytes more → Printed (bondtrace (bytes ++ more)) longestEnd before after stop
+refused-written bytes before after number stop is d printed more settled =
+    printed-as (ap (λ (g : ℕ). badLine g 0) is ∙ sym (refused-line bytes more settled (λ none. d (is ∙ none)))) (omega arith) printed
+
+-- of bytes behind which nothing comes
+pub all-of-them : (bytes : List ℕ) {before after : List ℕ} {stop : ℕ} → ((more : List ℕ) → Settled bytes more → Printed (bondtrace (bytes ++ more)) longestEnd before after stop) → Printed (bondtrace bytes) longestEnd before after stop
+all-of-them bytes told = printed-as (ap bondtrace (append-nil bytes)) (omega arith) (told [] (inr refl))

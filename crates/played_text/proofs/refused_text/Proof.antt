@@ -1,7 +1,7 @@
 use borrow.Author.Needs.{needs}
-use Rattle.end_printing.proofs.Refusing.{refused-written}
-use Rattle.end_printing.proofs.refused_text.Statement.{statement}
-use Rattle.end_printing.proofs.refused_text.Tie as tie
+use Rattle.played_text.proofs.Refusing.{refused-written}
+use Rattle.played_text.proofs.refused_text.Statement.{statement}
+use Rattle.played_text.proofs.refused_text.Tie as tie
 
 bad-line-requires : tie.Need-bad-line-requires
 bad-line-requires c κs = search needs
@@ -13,7 +13,7 @@ returns : tie.Need-returns
 returns c =
     let bad-line-tells = c .before .before .bad-line .ensures in
     let asked = c .before .before .before .before .before .before .pre in
-    (bad-line-tells .counts, refused-written _ _ _ _ _ (asked .1 .1) (asked .0) (asked .1 .0) bad-line-tells)
+    refused-written _ _ _ _ _ (asked .0) (asked .1) bad-line-tells
 
 pub refused-text-spec : {M : Type 1} → statement M
 refused-text-spec = tie.close (tie.spec bad-line-requires same-length returns)
