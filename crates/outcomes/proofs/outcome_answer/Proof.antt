@@ -6,8 +6,8 @@ use Rattle.model.specs.Refusals.{laterRows}
 use Rattle.model.specs.Threads.{at}
 use Rattle.laws.proofs.Groups.{table-number, later-number, table-few, place-below}
 use Rattle.outcomes.proofs.Shown.{outcome-refused, outcome-shown}
-use Rattle.outcomes.proofs.outcome.Statement.{statement}
-use Rattle.outcomes.proofs.outcome.Tie as tie
+use Rattle.outcomes.proofs.outcome_answer.Statement.{statement}
+use Rattle.outcomes.proofs.outcome_answer.Tie as tie
 
 table-refusal-requires : tie.Need-table-refusal-requires
 table-refusal-requires c κs = search needs
@@ -40,8 +40,8 @@ returns-3 c =
     let a = c .before .before .before .before .before .before .before .args in
     outcome-shown _ (a .thread) _ (later-number (step (a .thread)) _ _ (c .before .before .before .before .before .table-refusal .ensures) (c .before .before .before .before .if1 .left) _ (c .before .before .before .argument-refusal .ensures (a .t1) refl)) (c .before .before .if2 .left)
 
-pub outcome-spec : {M : Type 1} → statement M
-outcome-spec =
+pub outcome-answer-spec : {M : Type 1} → statement M
+outcome-answer-spec =
     tie.close
     (tie.spec
     table-refusal-requires
