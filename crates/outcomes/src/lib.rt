@@ -44,3 +44,23 @@ pub fn outcome_words<'a>(table: Table, thread: u8, store: &'a [u32]) -> &'a [u32
     let answer = outcome_answer(table, thread, store);
     answered_words(answer, thread, store)
 }
+
+// What the outcome call returns: its answer, and the words, as a slice of the caller's store.
+pub struct OutcomeReturned<'a> {
+    pub answer: OutcomeAnswer,
+    pub words: &'a [u32],
+}
+
+// The outcome call: the answer and the words that go with it.
+pub fn outcome<'a>(table: Table, thread: u8, store: &'a [u32]) -> OutcomeReturned<'a>
+    ensures answer { λ r. ⌜ saidOutcome (r .answer) ≡ outcomeAnswer (state table (now (store .entry))) thread ⌝ }
+    ensures words { λ r. ⌜ now (r .words) ≡ outcomeWords (state table (now (store .entry))) thread ⌝ }
+    ensures place { λ r. ⌜ (r .words .ptr .0 ≡ store .entry .ptr .0) × (r .words .ptr .1 ≡ store .entry .ptr .1 + 4 * outcomePlace (state table (now (store .entry))) thread) ⌝ }
+{
+    let answer = outcome_answer(table, thread, store);
+    let words = answered_words(answer, thread, store);
+    OutcomeReturned {
+        answer: answer,
+        words: words,
+    }
+}
