@@ -32,7 +32,7 @@ fn answered_words<'a>(answer: OutcomeAnswer, thread: u8, store: &'a [u32]) -> &'
 {
     match answer {
         OutcomeAnswer::Refused(_) => words::first_words(store, 0, 0),
-        OutcomeAnswer::Shown(shown) => words::first_words(store, thread, shown.count),
+        OutcomeAnswer::Shown(outcome) => words::first_words(store, thread, outcome.count),
     }
 }
 

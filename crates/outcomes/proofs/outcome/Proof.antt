@@ -38,7 +38,7 @@ use denote.Struct.Laws as struct
 use denote.Enum.Laws as enum
 use denote.Triple.Call.{calls-at}
 use denote.Triple.Statement.{Contract, Triple}
-use denote.Triple.Clauses.{Clauses, ensured, lasts}
+use denote.Triple.Clauses.{Clauses, atExit, ensured, lasts}
 use denote.Triple.Entry.{onEntry}
 use denote.Triple.Spec.{Meets, tripleOf}
 use denote.Triple.Table.{entered, cited}
@@ -226,6 +226,12 @@ module _ {M : Type 1} (𝓤 : URA M) (H : Heap 𝓤) (A : Atoms 𝓤) (W : Given
           exE 𝓤 _ (λ ws. via 𝓤 _ (snd∗ 𝓤 (sem 𝓤 H A (lasts answered-words.ended (κ, tt) (a, (x, (s, tt))) ws)) (sep 𝓤 (fact 𝓤 (WordsSaid w)) (fact 𝓤 (PlaceSaid w))))
           (qed W (raw (fact 𝓤 (WordsSaid w)) ∷ raw (fact 𝓤 (PlaceSaid w)) ∷ []) ∵ heard ! (WordsSaid w) (λ words. heard ! (PlaceSaid w) (λ place. by ! (factI 𝓤 (Handed w) (emp 𝓤) (words t answered, place t answered))))))
 
+      -- what the contract says of a result of a and w: the answer, the words and their place are the call's
+      promised : (w : RefT (List ℕ)) → Handed w → ent 𝓤 (emp 𝓤) (Promises (κ, tt) given .ensures tt (record { answer = a; words = w }) (atExit outcome.ended (κ, tt) given (tt, (tt, (tt, tt)))))
+      promised w handed =
+          qed W [] ∵ use0 W (raw (fact 𝓤 (PlaceOf t w))) (factI 𝓤 (PlaceOf t w) (emp 𝓤) (handed .1)) $
+          use0 W (raw (fact 𝓤 (WordsOf t w))) (factI 𝓤 (WordsOf t w) (emp 𝓤) (handed .0)) $ use0 W (raw (fact 𝓤 (Answered t a))) (factI 𝓤 (Answered t a) (emp 𝓤) answered) $ done !
+
       -- the end
       exits : (w : RefT (List ℕ)) (v : Val) → Handed w → ent 𝓤 (⋆ 𝓤 H A (‵ (Store κ .own w (v ∷ [])) ∷ Token ∷ Borrowed ∷ [])) (Post (resultValue u v))
       exits w v handed =
@@ -237,10 +243,7 @@ module _ {M : Type 1} (𝓤 : URA M) (H : Heap 𝓤) (A : Atoms 𝓤) (W : Given
           -- the parameters before it, and before them the token
           nothing ! $ move ! (3 ∷ 0 ∷ []) $ fjoin ! $ owned ! u8 (Is u8) (uint-makes 𝓤 H A W w8) x (vint w8 x ∷ []) (refl, x-fits) $ fjoin ! $
           owned ! table.the-row (Is table.the-row) (struct.makes table.the-type table-laws.the-plain 𝓤 H A) t (tableValue t ∷ []) table-is $ fjoin ! $
-          join ! $ move ! (1 ∷ 0 ∷ []) $ join ! $ frame ! $
-          -- the three clauses
-          use0 W (raw (fact 𝓤 (PlaceOf t w))) (factI 𝓤 (PlaceOf t w) (emp 𝓤) (handed .1)) $ use0 W (raw (fact 𝓤 (WordsOf t w))) (factI 𝓤 (WordsOf t w) (emp 𝓤) (handed .0)) $
-          use0 W (raw (fact 𝓤 (Answered t a))) (factI 𝓤 (Answered t a) (emp 𝓤) answered) $ done !
+          join ! $ move ! (1 ∷ 0 ∷ []) $ join ! $ frame ! $ by ! (promised w handed)
 
     -- the MIR
     walk : (𝓣 : Tables 𝓤 H) → Answers 𝓣 → Borrows 𝓣 → ent 𝓤 (onEntry 𝓤 H A outcome.signature (κ, tt) (q, tt) given values) (Body 𝓣 (tableValue t ∷ vint w8 x ∷ sliceValue s ∷ []) Post)
