@@ -1,4 +1,4 @@
-// What users see of a thread: its outcome and its words.
+// What users see of a thread: its outcome and its words, each by a function of its own, and both by the outcome call.
 ghost use mathlib.Core.Path.{_≡_};
 ghost use Prim.Native.Nat.{_+_, _*_};
 ghost use Rattle.model.specs.Answers.{saidOutcome};
@@ -6,6 +6,12 @@ ghost use Rattle.model.specs.declared.Table.{Table};
 ghost use Rattle.model.specs.Promise.{state, outcomeAnswer, outcomeWords, outcomePlace};
 use model::OutcomeAnswer;
 use model::Table;
+
+// What the outcome call returns: its answer, and the words, as a slice of the caller's store.
+pub struct OutcomeReturned<'a> {
+    pub answer: OutcomeAnswer,
+    pub words: &'a [u32],
+}
 
 // What the outcome call answers: code, source and count of a thread.
 pub fn outcome_answer(table: Table, thread: u8, store: &[u32]) -> OutcomeAnswer
@@ -36,7 +42,7 @@ fn answered_words<'a>(answer: OutcomeAnswer, thread: u8, store: &'a [u32]) -> &'
     }
 }
 
-// The words that a thread has received, as a slice of the caller's store; refused, an empty one.
+// The words that a thread has received, as a slice of the caller's store; refused, an empty one. It does not tell refused from no words: `outcome` does.
 pub fn outcome_words<'a>(table: Table, thread: u8, store: &'a [u32]) -> &'a [u32]
     ensures words { λ r. ⌜ now r ≡ outcomeWords (state table (now (store .entry))) thread ⌝ }
     ensures place { λ r. ⌜ (r .ptr .0 ≡ store .entry .ptr .0) × (r .ptr .1 ≡ store .entry .ptr .1 + 4 * outcomePlace (state table (now (store .entry))) thread) ⌝ }
@@ -45,13 +51,7 @@ pub fn outcome_words<'a>(table: Table, thread: u8, store: &'a [u32]) -> &'a [u32
     answered_words(answer, thread, store)
 }
 
-// What the outcome call returns: its answer, and the words, as a slice of the caller's store.
-pub struct OutcomeReturned<'a> {
-    pub answer: OutcomeAnswer,
-    pub words: &'a [u32],
-}
-
-// The outcome call: the answer and the words that go with it.
+// The outcome call: its answer and the words that go with it.
 pub fn outcome<'a>(table: Table, thread: u8, store: &'a [u32]) -> OutcomeReturned<'a>
     ensures answer { λ r. ⌜ saidOutcome (r .answer) ≡ outcomeAnswer (state table (now (store .entry))) thread ⌝ }
     ensures words { λ r. ⌜ now (r .words) ≡ outcomeWords (state table (now (store .entry))) thread ⌝ }
