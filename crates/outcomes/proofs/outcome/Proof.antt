@@ -1,7 +1,7 @@
 -- `outcomes::outcome` meets its contract: a walk of its MIR by hand, since the borrow checker does not cover a struct that holds a reference.
 --     local, returned      two rules: an operand that is a local, and what is had once a call has returned
 --     asks-…, says-…   what each callee asks, and what it says of its result: all that the walk knows of the callee
---     exits        from what is had at the end to the contract's clauses: of the store a slice is still had, and another in the result
+--     promised, exits      that the contract's clauses hold of the result;  and from what is had at the end to the contract: the store is still borrowed, and the result borrows the words
 -- A slice that is borrowed by `&` can be had any number of times: one for each callee, and one for the exit.
 -- A rule names an entry of the context by its place, counted from 0. A local is two entries: what lies in it, and the right to free it.
 -- Assumes nothing.
