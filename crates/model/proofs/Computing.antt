@@ -54,7 +54,7 @@ unfolding Refusals.firstRefusal Refusals.unless Refusals.badSize Refusals.notWel
 refusals = 0
 
 unfoldable pub promises : ℕ
-unfolding Promise.answer Promise.next Promise.makeAnswer Promise.madeTable Promise.view Promise.outcomeAnswer Promise.outcomeWords Promise.reportAnswer Promise.reportAfter
+unfolding Promise.answer Promise.next Promise.makeAnswer Promise.madeTable Promise.view Promise.outcomeAnswer Promise.outcomeWords Promise.outcomePlace Promise.reportAnswer Promise.reportAfter
 promises = 0
 
 unfoldable pub events : ℕ

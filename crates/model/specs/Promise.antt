@@ -1,7 +1,7 @@
 -- What each public call returns and leaves, refused or not. Contracts cite these definitions, and the linearization is about them.
 use mathlib.Core.Path.{_≡_}
 use mathlib.Core.List.{List, []}
-use Prim.Native.Nat.{ℕ}
+use Prim.Native.Nat.{ℕ, _*_}
 use lib.ListN.{length, take}
 use Rattle.model.specs.declared.Outcome.{Outcome}
 use Rattle.model.specs.declared.Table.{Table}
@@ -58,6 +58,10 @@ outcomeAnswer s x = unless (outcomeRefusal s x) SaidOutcome.refused (shown (view
 -- "hands back the first `count` of them as a part of the store; refused, an empty part"
 unfoldable pub outcomeWords : State → ℕ → List ℕ
 outcomeWords s x = unless (outcomeRefusal s x) (λ g. []) (view s x .words)
+
+-- "The eight words of thread t start at place 8×t": where in the store they start; refused, 0, which document 01 leaves free
+unfoldable pub outcomePlace : State → ℕ → ℕ
+outcomePlace s x = unless (outcomeRefusal s x) (λ g. 0) (8 * x)
 
 -- ---- report
 -- what the report call answers

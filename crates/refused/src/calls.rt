@@ -134,7 +134,7 @@ fn outcome(table: Table, given: Arguments) {
     let x = given.thread;
     let k = lesser(given.words, WORDS);
     print(b", outcome ");
-    let answer = outcomes::outcome(table, x, &store[0..k]);
+    let answer = outcomes::outcome_answer(table, x, &store[0..k]);
     match answer {
         OutcomeAnswer::Refused(n) => printed::print_answer(Answer::Refused(n)),
         OutcomeAnswer::Shown(outcome) => print_outcome(outcome),

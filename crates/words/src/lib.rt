@@ -40,7 +40,8 @@ pub fn lesser(a: usize, b: usize) -> usize
 
 // The first count of thread x's eight words, as a slice of the store, as far as the store has them.
 pub fn first_words<'a>(store: &'a [u32], x: u8, count: u8) -> &'a [u32]
-    ensures { λ r. ⌜ now r ≡ take count (wordsAt (now (store .entry)) x) ⌝ }
+    ensures words { λ r. ⌜ now r ≡ take count (wordsAt (now (store .entry)) x) ⌝ }
+    ensures place { λ r. ⌜ (r .ptr .0 ≡ store .entry .ptr .0) × (r .ptr .1 ≡ store .entry .ptr .1 + 4 * min (8 * x) (length (now (store .entry)))) ⌝ }
 {
     let start = lesser(WORDS * (x as usize), store.len());
     let most = lesser(count as usize, WORDS);

@@ -28,7 +28,7 @@ returns c =
     let worded = ended .before .before .before .before in
     let told = worded .before .before .before .before in
     let chosen = told .before .before in
-    let words = rw (chosen .first-words .ensures) at (worded .put-words .ensures) in (
+    let words = rw (chosen .first-words .ensures .0) at (worded .put-words .ensures) in (
       λ t e. rw (line-parts, e) (told .put-outcome .ensures .0 then words .0 then ended .put-byte .ensures),
       λ t e. line-short _ _ (rw e (told .put-outcome .ensures .1)) (rw e (words .1)),
     )

@@ -1,3 +1,5 @@
+use mathlib.Core.Path.{refl}
+use native.Mathlib.Omega.{arith}
 use borrow.Author.Needs.{needs}
 use Rattle.words.proofs.Laws.{first-there}
 use Rattle.words.proofs.first_words.Statement.{statement}
@@ -30,8 +32,15 @@ part-result-start c = search needs
 part-result-end : tie.Need-part-result-end
 part-result-end c = search needs
 
+-- the words by the three numbers, and the place by the first
 returns : tie.Need-returns
-returns c = first-there _ _ (c .before .before .before .before .before .args .count) (c .before .before .before .lesser .ensures) (c .before .before .lesser2 .ensures) (c .before .lesser3 .ensures)
+returns c =
+    let third = c .before in
+    let second = third .before in
+    let first = second .before in
+    let start = first .lesser .ensures in
+    let words = first-there _ _ (first .before .before .args .count) start (second .lesser2 .ensures) (third .lesser3 .ensures) in
+    (words, (refl, rw start (omega arith)))
 
 pub first-words-spec : {M : Type 1} → statement M
 first-words-spec =
