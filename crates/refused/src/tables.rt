@@ -1,4 +1,7 @@
 // The commands that make a table, or set one field of one thread.
+ghost use mathlib.Core.Path.{_≡_};
+ghost use Prim.Native.Nat.{_≤_};
+ghost use lib.ListN.{length};
 use crate::lines;
 use crate::lines::Line;
 use model::Flags;
@@ -8,7 +11,34 @@ use model::Queue;
 use model::Table;
 use model::Thread;
 
-// The operation with these numbers in its begin record; its words are 0.
+// How many bytes the eight words of a begin record have.
+const WORD_BYTES: usize = 32;
+
+// Byte i of the words: i + 1 up to where they end, and 0 behind them.
+fn word_byte(i: usize, end: usize) -> u8
+    requires { ⌜ i ≤ 31 ⌝ }
+{
+    if i < end {
+        return (i + 1) as u8;
+    }
+    0
+}
+
+// The bytes of a begin record, those of its words set to 1, 2, 3 and so on, as far as the count reaches: word 0 is 04030201 in hexadecimal.
+fn with_words(bytes: [u8; 42], count: u8) -> [u8; 42]
+    ensures { λ r. ⌜ 42 ≡ length r ⌝ }
+{
+    let end = 4 * (count as usize);
+    let mut next = bytes;
+    let mut i: usize = 0;
+    while i < WORD_BYTES {
+        next[reading::FIRST_WORD + i] = word_byte(i, end);
+        i += 1;
+    }
+    next
+}
+
+// The operation with these numbers in its begin record, and such words.
 pub fn operation(
     parts: u8,
     target: u8,
@@ -24,7 +54,8 @@ pub fn operation(
     bytes[reading::COUNT] = count;
     bytes[reading::SEND_TIME] = send_time;
     bytes[reading::RECEIVE_TIME] = receive_time;
-    reading::operation_at(&bytes)
+    let spelled = with_words(bytes, count);
+    reading::operation_at(&spelled)
 }
 
 // Flags of which each is set where its number is not 0.
@@ -48,15 +79,26 @@ fn queue_of(first: u8, len: u8) -> Queue {
     }
 }
 
-// An outcome with code 0, 1, 2 or, for any other number, 3, which is none of document 01.
-fn outcome_of(numbers: [u8; 10]) -> Outcome {
-    let number = numbers[2];
-    let code = match number {
+// The code that a byte stands for: 0 to 2 itself, 249 to 255 from -7 to -1, as in two's complement, and any other 3, which is none of document 01.
+fn code_of(byte: u8) -> i32 {
+    match byte {
         0 => 0,
         1 => 1,
         2 => 2,
+        249 => -7,
+        250 => -6,
+        251 => -5,
+        252 => -4,
+        253 => -3,
+        254 => -2,
+        255 => -1,
         _ => 3,
-    };
+    }
+}
+
+// The outcome with the numbers of a line.
+fn outcome_of(numbers: [u8; 10]) -> Outcome {
+    let code = code_of(numbers[2]);
     Outcome {
         code: code,
         source: numbers[3],
