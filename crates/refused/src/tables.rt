@@ -1,7 +1,7 @@
 // The commands that make a table, or set one field of one thread.
 ghost use mathlib.Core.Path.{_≡_};
-ghost use Prim.Native.Nat.{_≤_};
 ghost use lib.ListN.{length};
+use crate::calls::lesser;
 use crate::lines;
 use crate::lines::Line;
 use model::Flags;
@@ -14,25 +14,15 @@ use model::Thread;
 // How many bytes the eight words of a begin record have.
 const WORD_BYTES: usize = 32;
 
-// Byte i of the words: i + 1 up to where they end, and 0 behind them.
-fn word_byte(i: usize, end: usize) -> u8
-    requires { ⌜ i ≤ 31 ⌝ }
-{
-    if i < end {
-        return (i + 1) as u8;
-    }
-    0
-}
-
 // The bytes of a begin record, those of its words set to 1, 2, 3 and so on, as far as the count reaches: word 0 is 04030201 in hexadecimal.
 fn with_words(bytes: [u8; 42], count: u8) -> [u8; 42]
     ensures { λ r. ⌜ 42 ≡ length r ⌝ }
 {
-    let end = 4 * (count as usize);
+    let end = lesser(4 * (count as usize), WORD_BYTES);
     let mut next = bytes;
     let mut i: usize = 0;
-    while i < WORD_BYTES {
-        next[reading::FIRST_WORD + i] = word_byte(i, end);
+    while i < end {
+        next[reading::FIRST_WORD + i] = (i + 1) as u8;
         i += 1;
     }
     next
@@ -79,9 +69,11 @@ fn queue_of(first: u8, len: u8) -> Queue {
     }
 }
 
-// The code that a byte stands for: 0 to 2 itself, 249 to 255 from -7 to -1, as in two's complement, and any other 3, which is none of document 01.
-fn code_of(byte: u8) -> i32 {
-    match byte {
+// The outcome with the numbers of a line. Its code is 0, 1 or 2, or for 249 to 255 from -7 to -1, as in two's complement, and for any other
+// number 3, which is none of document 01.
+fn outcome_of(numbers: [u8; 10]) -> Outcome {
+    let number = numbers[2];
+    let code = match number {
         0 => 0,
         1 => 1,
         2 => 2,
@@ -93,12 +85,7 @@ fn code_of(byte: u8) -> i32 {
         254 => -2,
         255 => -1,
         _ => 3,
-    }
-}
-
-// The outcome with the numbers of a line.
-fn outcome_of(numbers: [u8; 10]) -> Outcome {
-    let code = code_of(numbers[2]);
+    };
     Outcome {
         code: code,
         source: numbers[3],

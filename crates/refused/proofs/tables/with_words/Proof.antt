@@ -6,22 +6,28 @@ use Rattle.refused.proofs.tables.with_words.Statement.{statement}
 use Rattle.refused.proofs.tables.with_words.Tie as tie
 
 abbrev Inv-loop : tie.InvT-loop
-Inv-loop count end next₀ i₀ next i = (i ≤ 32) × (length next ≡ 42)
+Inv-loop count end next₀ i₀ next i = (i ≤ end) × (end ≤ 32) × (length next ≡ 42)
 
 abbrev μ-loop : tie.MeasureT-loop
-μ-loop count end next₀ i₀ next i = 32 - i
+μ-loop count end next₀ i₀ next i = end - i
 
-mul-end : tie.Need-mul-end Inv-loop μ-loop
-mul-end c = search needs
+mul-lesser : tie.Need-mul-lesser Inv-loop μ-loop
+mul-lesser c = search needs
+
+lesser-requires : tie.Need-lesser-requires Inv-loop μ-loop
+lesser-requires c κs = search needs
 
 loop-holds : tie.Need-loop-holds Inv-loop μ-loop
 loop-holds c = search needs
 
-word-byte-requires : tie.Need-word-byte-requires Inv-loop μ-loop
-word-byte-requires c κs = search needs
-
 add-next : tie.Need-add-next Inv-loop μ-loop
 add-next c = search needs
+
+cast-next : tie.Need-cast-next Inv-loop μ-loop
+cast-next c = search needs
+
+add-next-2 : tie.Need-add-next-2 Inv-loop μ-loop
+add-next-2 c = search needs
 
 array-write-next : tie.Need-array-write-next Inv-loop μ-loop
 array-write-next c = search needs
@@ -44,10 +50,12 @@ with-words-spec =
     (tie.spec
     Inv-loop
     μ-loop
-    mul-end
+    mul-lesser
+    lesser-requires
     loop-holds
-    word-byte-requires
     add-next
+    cast-next
+    add-next-2
     array-write-next
     add-i
     loop-less
