@@ -54,7 +54,7 @@ pub put-over : (x : ℕ) (h k : Thread) (t : Table) → put x h (put x k t) ≡ 
 unfolding put
 put-over x h k t = ap (λ (threads : List Thread). withThreads threads t) (set-set (t .threads) x k h)
 
--- a thread that is put past the array's end changes nothing
+-- a thread that is put at no place of the array changes nothing
 pub put-nowhere : (x : ℕ) (h : Thread) (t : Table) → length (t .threads) ≤ x → put x h t ≡ t
 unfolding put
 put-nowhere x h t l = ap (λ (threads : List Thread). withThreads threads t) (set-out (t .threads) x h l)

@@ -1,4 +1,4 @@
--- Document 01, "Calls", step: what is answered where a lock or a sender is not free, and the order in which the tests of check and look stand.
+-- Document 01, "Calls": what is answered where a lock or a sender is not free, and the order in which the tests of check and look stand.
 -- Each row has every answer of its calls and each thread's code after them.
 use mathlib.Core.Path.{_≡_, refl}
 use mathlib.Core.List.{List, [], _∷_, _++_, map}
@@ -8,7 +8,7 @@ use lib.ListN.{replicate}
 use Rattle.model.specs.declared.Receive.the-variants.{Absent}
 use Rattle.model.specs.declared.Receive.{Receive}
 use Rattle.model.specs.declared.Outcome.{Outcome}
-use Rattle.model.specs.Answers.{Reply, accepted, marked, moved, wants, asleep, Said, replied}
+use Rattle.model.specs.Answers.{Reply, accepted, marked, moved, held, wants, asleep, Said, refused, replied}
 use Rattle.model.specs.Lists.{upTo}
 use Rattle.model.specs.Codes.{running, neverBegun, receiveTimeOver, receiveCancelled, sendCancelled, codeOnly}
 use Rattle.model.specs.Threads.{newTable, at}
@@ -34,9 +34,13 @@ showing calls =
     record { answers = all .answers; outcomes = upTo 4 (λ x. at (all .last .table) x .outcome) }
 
 -- ---- short forms that the rows are written in
--- the calls of a row, what each replies, and the code of each thread after them; no receive completes, so a code is all of an outcome
+-- the calls of a row, what each answers, and the code of each thread after them; no receive completes, so a code is all of an outcome
+abbrev answers : List Call → List Said → List ℤ → AnsweredRow
+answers calls said codes = record { calls = calls; shown = record { answers = said; outcomes = map codeOnly codes } }
+
+-- the same where no call is refused, with what each replies
 abbrev shows : List Call → List Reply → List ℤ → AnsweredRow
-shows calls replies codes = record { calls = calls; shown = record { answers = map replied replies; outcomes = map codeOnly codes } }
+shows calls replies codes = answers calls (map replied replies) codes
 
 -- x begins to send no words to a target, without end
 abbrev sending : ℕ → ℕ → Call
@@ -49,12 +53,21 @@ receiving x receive = begin x (receiveOnly receive)
 -- ---- the table
 -- the rows, named by what they show
 pub data Name : Type 0 where
+  begin-while-held held-in-look : Name
   lock-taken lock-of-the-sender-taken first-sender-alone-counts poll-before-lock : Name
   past-an-unacceptable-sender late-past-an-unacceptable-sender : Name
   marked-sender-target-ready marked-receiver-sender-waits : Name
 
 -- the calls and what they show
 unfoldable pub row : Name → AnsweredRow
+-- begin: refused by 4, "begin or cancel, and its lock is owned"; 0 has the lock of 1, which is idle
+row begin-while-held = answers
+    (sending 0 1 ∷ steps 1 0 ++ receiving 1 (openFor 15) ∷ [])
+    (replied accepted ∷ replied moved ∷ refused 4 ∷ []) (running ∷ neverBegun ∷ neverBegun ∷ neverBegun ∷ [])
+-- step: "if another owns t's lock, answer held", and cancel is refused by 4, also where the thread runs; 0 has the lock of 1, which is in look
+row held-in-look = answers
+    (receiving 1 (openFor 15) ∷ sending 0 1 ∷ steps 1 0 ++ steps 1 1 ++ cancel 1 ∷ [])
+    (replied accepted ∷ replied accepted ∷ replied moved ∷ replied held ∷ refused 4 ∷ []) (running ∷ running ∷ neverBegun ∷ neverBegun ∷ [])
 -- lock: "Else answer wants"; 0 has the lock of 1 when 2 comes to it
 row lock-taken = shows (sending 0 1 ∷ sending 2 1 ∷ steps 1 0 ++ steps 1 2) (accepted ∷ accepted ∷ moved ∷ wants ∷ []) (running ∷ neverBegun ∷ running ∷ neverBegun ∷ [])
 -- look: "if its lock is taken answer wants"; 0 sleeps at 1, and 3 has its lock
@@ -89,6 +102,8 @@ row marked-receiver-sender-waits = shows
 -- each row's calls show what it says
 pub answered : (name : Name) → showing (row name .calls) ≡ row name .shown
 unfolding computing showing row
+answered begin-while-held = refl
+answered held-in-look = refl
 answered lock-taken = refl
 answered lock-of-the-sender-taken = refl
 answered first-sender-alone-counts = refl

@@ -1,28 +1,37 @@
 -- The list of what document 01 leaves free, with what ours holds there. Each is settled by a definition; here it is said in one place.
 use mathlib.Core.Path.{_≡_, refl, _∙_}
 use mathlib.Core.Logic.{_≢_}
-use mathlib.Core.Bool.{Bool, true}
-use mathlib.Core.List.{List, map}
+use mathlib.Core.Bool.{Bool, true, false}
+use mathlib.Core.List.{List, [], _∷_, map}
 use Prim.Native.Nat.{ℕ, suc, _+_, _-_, _*_}
-use lib.ListN.{length, getD, drop, replicate}
+use lib.ListN.{length, getD, set, drop, replicate}
 use lib.Seq.{getD-set-other, getD-append-add, getD-drop}
+use lib.Dec.{eqb}
 use lib.IntN.{ℤ}
 use Rattle.model.specs.declared.Operation.{Operation}
+use Rattle.model.specs.declared.Outcome.{Outcome}
 use Rattle.model.specs.declared.Thread.{Thread}
 use Rattle.model.specs.declared.Table.{Table}
+use Rattle.model.specs.declared.Record.{Record}
+use Rattle.model.specs.Answers.{accepted, replied}
 use Rattle.model.specs.Codes.{noReceiver, nobody, codeOnly}
 use Rattle.model.specs.Times.{never, tickCount, fall}
 use Rattle.model.specs.Operations.{targetBeyond}
-use Rattle.model.specs.Lists.{without, upTo}
+use Rattle.model.specs.Lists.{implies, allOf, without, upTo}
 use Rattle.model.specs.Phases.{Phase, phases, phaseOf, phaseNumber}
 use Rattle.model.specs.Threads.{noOperation, newThread, newTable, edit, ended, withoutReceive}
 use Rattle.model.specs.Queues.{senders, joined, departed}
-use Rattle.model.specs.Step.{abortSend, startCopy, copyWord, finishCall, finishSend, freeTarget, abortReceive, takeSender, ownAfter, received}
+use Rattle.model.specs.Step.{abortSend, startCopy, copyWord, finishCall, finishSend, freeTarget, abortReceive, takeSender, ownAfter, received, storeAfter}
+use Rattle.model.specs.Store.{wordCopied}
 use Rattle.model.specs.Calls.{begun, beginTable}
-use Rattle.model.specs.Refusals.{unless, makeRefusal}
-use Rattle.model.specs.Promise.{madeTable}
-use Rattle.model.specs.Decoding.{decodeRefusal, decode}
-use Rattle.model.specs.Bondtrace.{started}
+use Rattle.model.specs.Refusals.{unless, makeRefusal, reportRefusal}
+use Rattle.model.specs.Promise.{makeAnswer, madeTable, reportAnswer}
+use Rattle.model.specs.Atomic.{AtomicThread, firstMachine, ending}
+use Rattle.model.specs.Decoding.{decodeRefusal, decodeAnswer, decode}
+use Rattle.model.specs.RecordBytes.{beginKind, lawful}
+use Rattle.model.specs.Encoding.{operationBytes, encode, allZero, lawfulRecord, encodeRefusal, encodeAnswer}
+use Rattle.model.specs.Bondtrace.{ascii, started}
+use Rattle.model.proofs.Laws.{by}
 
 -- what an ending leaves as it was: the operation, `left`, and the two numbers that belong to other phases
 pub record Rest : Type 0 where
@@ -132,6 +141,54 @@ two-fields s h = (refl, refl, refl)
 pub first-store : (n : ℕ) → started n .now .store ≡ replicate (8 * n) 0
 unfolding started
 first-store n = refl
+
+-- 18. the fields of an operation that its parts do not use: begin stores them as they were passed
+pub stored-as-passed : (o : Operation) (p : Phase) (h : Thread) → begun o p h .op ≡ o
+unfolding begun
+stored-as-passed o p h = refl
+
+-- 19. what is answered where document 01 names no reply: making a table, report, reading and writing answer accepted where they are not refused
+pub made-reply : (n : ℕ) → makeRefusal n ≡ 0 → makeAnswer n ≡ replied accepted
+unfolding makeAnswer unless
+made-reply n e = rw e refl
+
+-- the same of report
+pub report-reply : (t : Table) (records : List Outcome) → reportRefusal t (length records) ≡ 0 → reportAnswer t records ≡ replied accepted
+unfolding reportAnswer unless
+report-reply t records e = rw e refl
+
+-- of reading
+pub read-reply : (first : Bool) (input : List ℕ) → decodeRefusal first input ≡ 0 → decodeAnswer first input ≡ replied accepted
+unfolding decodeAnswer unless
+read-reply first input e = rw e refl
+
+-- and of writing
+pub written-reply : (first : Bool) (r : Record) (buffer : List ℕ) → encodeRefusal first r buffer ≡ 0 → encodeAnswer first r buffer ≡ replied accepted
+unfolding encodeAnswer unless
+written-reply first r buffer e = rw e refl
+
+-- 20. the order in which copy delivers the words: from the first on, each at its own place of the receiver's eight
+pub copied-in-order : (h : Thread) (store : List ℕ)
+    → storeAfter copyWord h store ≡ set store (8 * (h .op .send .target) + h .copied) (getD (h .op .send .words) (h .copied) 0)
+unfolding storeAfter wordCopied
+copied-in-order h store = refl
+
+-- 21. `left` of the atomic machine where nothing runs: 0 at first, and after an ending as it was
+pub atomic-left : (x : ℕ) (u : Outcome) (words : List ℕ) (p : AtomicThread) → (firstMachine x .left ≡ 0) × (ending u words p .left ≡ p .left)
+atomic-left x u words p = (refl, refl)
+
+-- 22. the end of a printed line: byte 10, behind the last line too, as `finalText` and `badLine` are written
+pub line-end : ascii "\n" ≡ 10 ∷ []
+unfolding ascii upTo
+line-end = refl
+
+-- 23. a record that is no begin and yet holds an operation: not lawful
+pub operation-elsewhere : (first : Bool) (r : Record) → eqb (r .kind) beginKind ≡ false → allZero (operationBytes (r .op)) ≡ false → lawfulRecord first r ≡ false
+unfolding lawfulRecord allOf implies
+operation-elsewhere first r k o = rw (k, o) (by (lawful first (encode r)) (λ e. rw e refl) (λ e. rw e refl))
+
+-- 24. of what no definition speaks: where in the store an empty slice starts that the outcome call hands back; a program's exit status, which is 0; and
+-- a read or a write that fails: the one ends the input, and what the other should have written is lost
 
 -- ---- not free, and told by no trace from a new table
 -- release leaves the flags as they were, also where `send` is set and `poll` clear, as only a table that is passed in can have them

@@ -123,7 +123,7 @@ words a b rest = a ∷ b ∷ 0 ∷ 0 ∷ 0 ∷ 0 ∷ 0 ∷ 0 ∷ rest
 
 -- ---- the table
 pub data Name : Type 0 where
-  P1 P2 P3 P4 P5 P6 P7 P8-idle P8-look P9 P10 P11 P12 : Name
+  P1 P2 P3 P4 P5 P6 P7 P8 P9 P10 P11 P12 : Name
 
 unfoldable pub row : Name → ExampleRow
 -- P1: "N 2; 1 begins open receive, code 15; 0 begins send to 1, word 250, code 15; five steps of 0, one of 1"
@@ -203,26 +203,15 @@ row P7 = record {
     linearization = some (begins 0 (receiveOnly (openFor 15))) ∷ none ∷ some (cancels 0) ∷ some (aborts 0 receiveCancelled) ∷ [];
   };
 }
--- P8: "0 owns 1's lock: step of 1 answers held, cancel of 1 returns 4", and so does begin; 1 is idle
-row P8-idle = record {
+-- P8: "0 owns 1's lock: step of 1 answers held, cancel of 1 returns 4"
+row P8 = record {
   n = 2;
-  calls = begin 0 (sendTo 1 [] 15 Absent) ∷ steps 1 0 ++ step 1 ∷ cancel 1 ∷ begin 1 (receiveOnly (openFor 15)) ∷ [];
+  calls = begin 0 (sendTo 1 [] 15 Absent) ∷ steps 1 0 ++ step 1 ∷ cancel 1 ∷ [];
   result = record {
-    answers = replied accepted ∷ replied moved ∷ replied held ∷ refused 4 ∷ refused 4 ∷ [];
+    answers = replied accepted ∷ replied moved ∷ replied held ∷ refused 4 ∷ [];
     threads = thread check (flags 1 1 0 1 0) nobody [] (codeOnly running) ∷ thread idle noFlags 0 (0 ∷ []) (codeOnly neverBegun) ∷ [];
     store = words 0 0 (untouched []);
-    linearization = some (begins 0 (sendTo 1 [] 15 Absent)) ∷ none ∷ none ∷ none ∷ none ∷ [];
-  };
-}
--- P8 again, with 1 in look
-row P8-look = record {
-  n = 2;
-  calls = begin 1 (receiveOnly (openFor 15)) ∷ begin 0 (sendTo 1 [] 15 Absent) ∷ steps 1 0 ++ step 1 ∷ cancel 1 ∷ [];
-  result = record {
-    answers = replied accepted ∷ replied accepted ∷ replied moved ∷ replied held ∷ refused 4 ∷ [];
-    threads = thread check (flags 1 1 0 1 0) nobody [] (codeOnly running) ∷ thread look (flags 1 0 1 0 0) 0 (0 ∷ []) (codeOnly running) ∷ [];
-    store = words 0 0 (words 0 0 []);
-    linearization = some (begins 1 (receiveOnly (openFor 15))) ∷ some (begins 0 (sendTo 1 [] 15 Absent)) ∷ none ∷ none ∷ none ∷ [];
+    linearization = some (begins 0 (sendTo 1 [] 15 Absent)) ∷ none ∷ none ∷ none ∷ [];
   };
 }
 -- P9: "0 then 2 queue at open receiver 1; only 2 steps: 2 delivers"

@@ -42,7 +42,7 @@ unfoldable pub newTable : ℕ → Table
 newTable n = record { n = n; threads = replicate 32 newThread }
 
 -- ---- reading and changing a thread
--- what Rattle reads past the end of an array of threads: everything zero
+-- what the definitions take for a thread that is not there: everything zero. No code reads past an array
 abbrev pub zeroThread : Thread
 zeroThread = record {
   flags = noFlags;

@@ -1,4 +1,7 @@
 // The commands that make a table, or set one field of one thread.
+ghost use mathlib.Core.Path.{_≡_};
+ghost use lib.ListN.{length};
+use crate::calls::lesser;
 use crate::lines;
 use crate::lines::Line;
 use model::Flags;
@@ -8,7 +11,24 @@ use model::Queue;
 use model::Table;
 use model::Thread;
 
-// The operation with these numbers in its begin record; its words are 0.
+// How many bytes the eight words of a begin record have.
+const WORD_BYTES: usize = 32;
+
+// The bytes of a begin record, those of its words set to 1, 2, 3 and so on, as far as the count reaches: word 0 is 04030201 in hexadecimal.
+fn with_words(bytes: [u8; 42], count: u8) -> [u8; 42]
+    ensures { λ r. ⌜ 42 ≡ length r ⌝ }
+{
+    let end = lesser(4 * (count as usize), WORD_BYTES);
+    let mut next = bytes;
+    let mut i: usize = 0;
+    while i < end {
+        next[reading::FIRST_WORD + i] = (i + 1) as u8;
+        i += 1;
+    }
+    next
+}
+
+// The operation with these numbers in its begin record, and such words.
 pub fn operation(
     parts: u8,
     target: u8,
@@ -24,7 +44,8 @@ pub fn operation(
     bytes[reading::COUNT] = count;
     bytes[reading::SEND_TIME] = send_time;
     bytes[reading::RECEIVE_TIME] = receive_time;
-    reading::operation_at(&bytes)
+    let spelled = with_words(bytes, count);
+    reading::operation_at(&spelled)
 }
 
 // Flags of which each is set where its number is not 0.
@@ -48,13 +69,21 @@ fn queue_of(first: u8, len: u8) -> Queue {
     }
 }
 
-// An outcome with code 0, 1, 2 or, for any other number, 3, which is none of document 01.
+// The outcome with the numbers of a line. Its code is 0, 1 or 2, or for 249 to 255 from -7 to -1, as in two's complement, and for any other
+// number 3, which is none of document 01.
 fn outcome_of(numbers: [u8; 10]) -> Outcome {
     let number = numbers[2];
     let code = match number {
         0 => 0,
         1 => 1,
         2 => 2,
+        249 => -7,
+        250 => -6,
+        251 => -5,
+        252 => -4,
+        253 => -3,
+        254 => -2,
+        255 => -1,
         _ => 3,
     };
     Outcome {

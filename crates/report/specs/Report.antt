@@ -11,7 +11,7 @@ use Rattle.model.specs.Threads.{at}
 use Rattle.model.specs.Refusals.{unless, reportRefusal}
 use Rattle.report.specs.declared.Report.{Report}
 
--- the outcome that is read past an array's end
+-- what stands for an outcome that is not there: all zero
 abbrev pub zeroOutcome : Outcome
 zeroOutcome = record { code = pos 0; source = 0; count = 0 }
 
