@@ -23,9 +23,9 @@ use Rattle.model.specs.Threads.{noOperation, newThread, newTable, edit, 
 use Rattle.model.specs.Queues.{senders, joined, departed}
 use Rattle.model.specs.Step.{abortSend, startCopy, copyWord, finishCall, finishSend, freeTarget, abortReceive, takeSender, ownAfter, received, storeAfter}
 use Rattle.model.specs.Store.{wordCopied}
-use Rattle.model.specs.Calls.{begun, beginTable}
-use Rattle.model.specs.Refusals.{unless, makeRefusal, reportRefusal}
-use Rattle.model.specs.Promise.{makeAnswer, madeTable, reportAnswer}
+use Rattle.model.specs.Calls.{State, begun, beginTable}
+use Rattle.model.specs.Refusals.{unless, makeRefusal, outcomeRefusal, reportRefusal}
+use Rattle.model.specs.Promise.{makeAnswer, madeTable, outcomePlace, reportAnswer}
 use Rattle.model.specs.Atomic.{AtomicThread, firstMachine, ending}
 use Rattle.model.specs.Decoding.{decodeRefusal, decodeAnswer, decode}
 use Rattle.model.specs.RecordBytes.{beginKind, lawful}
@@ -187,8 +187,13 @@ pub operation-elsewhere : (first : Bool) (r : Record) → eqb (r .kind) beginKin
 unfolding lawfulRecord allOf implies
 operation-elsewhere first r k o = rw (k, o) (by (lawful first (encode r)) (λ e. rw e refl) (λ e. rw e refl))
 
--- 24. of what no definition speaks: where in the store an empty slice starts that the outcome call hands back; a program's exit status, which is 0; and
--- a read or a write that fails: the one ends the input, and what the other should have written is lost
+-- 24. where in the store the empty slice starts that a refused outcome hands back: at its front
+pub empty-at-the-front : (s : State) (x g : ℕ) → outcomeRefusal s x ≡ suc g → outcomePlace s x ≡ 0
+unfolding outcomePlace unless
+empty-at-the-front s x g e = rw e refl
+
+-- 25. of what no definition speaks: a program's exit status, which is 0; a read or a write that fails: the one ends the input, and what the other should
+-- have written is lost; what is printed of an input of 2^63 bytes or more, of which the crate `end_printing` speaks
 
 -- ---- not free, and told by no trace from a new table
 -- release leaves the flags as they were, also where `send` is set and `poll` clear, as only a table that is passed in can have them
