@@ -2,47 +2,24 @@
 ghost use mathlib.Core.Path.{_≡_};
 ghost use mathlib.Core.Bool.{Bool};
 ghost use mathlib.Core.List.{List, [], _++_};
-ghost use Prim.Native.Nat.{ℕ, _+_, _-_, _≤_, _<_};
+ghost use Prim.Native.Nat.{ℕ, _+_, _≤_};
 ghost use lib.ListN.{length, take};
 ghost use Rattle.model.specs.Bondtrace.{bondtrace};
 ghost use Rattle.text.specs.Writing.{Counts, Printed};
-ghost use Rattle.refill.specs.Refilled.{Refilled};
 ghost use Rattle.opening.specs.Opened.{Steady};
 ghost use Rattle.played_text.specs.Known.{Reached, Starts, longestEnd};
 ghost use Rattle.end_printing.specs.Input.{Told};
 use libc::STDOUT_FILENO;
 use opening::Playback;
+use refill::Supply;
 
 // An input is played up to so many bytes: 2^63. No count comes near its end.
 const MOST_BYTES: u64 = 9223372036854775808;
-
-// What the reads have given: where the bytes in the buffer end, and how many were delivered in all.
-struct Supply {
-    end: usize,
-    delivered: u64,
-}
 
 // A text of so many bytes, and how many bytes of input were delivered for it.
 struct Ended {
     length: usize,
     delivered: u64,
-}
-
-// Moves the bytes from start on down to the front and reads behind them. There is room, so that where nothing was read, the input has ended or cannot be read.
-fn supplied(input: i32, buffer: &mut [u8], start: usize, before: Supply) -> Supply
-    requires { ⌜ start ≤ before .end ⌝ }
-    requires { ⌜ before .end ≤ length (now buffer) ⌝ }
-    requires { ⌜ before .end - start < length (now buffer) ⌝ }
-    requires { ⌜ before .delivered + length (now buffer) < 18446744073709551616 ⌝ }
-    ensures filled { λ r. ⌜ Refilled start (before .end) (now (buffer .entry)) (now (buffer .exit)) (r .end) ⌝ }
-    ensures counted { λ r. ⌜ r .delivered + (before .end - start) ≡ before .delivered + r .end ⌝ }
-{
-    let rest = before.end - start;
-    let end = refill::refill(input, buffer, start, before.end);
-    Supply {
-        end: end,
-        delivered: before.delivered + (end - rest) as u64,
-    }
 }
 
 // The text when nothing more is played: each byte that was delivered was played or is left.
@@ -85,7 +62,7 @@ fn play_on(input: i32, opened: Playback, buffer: &mut [u8], first: Supply, out: 
         if played.bad {
             return end_of(playback, &words[..size], left, supply.delivered, out);
         }
-        supply = supplied(input, buffer, next, supply);
+        supply = refill::supplied(input, buffer, next, supply);
         start = 0;
         if supply.end == left {
             return end_of(playback, &words[..size], left, supply.delivered, out);
@@ -136,7 +113,7 @@ pub fn run(input: i32) {
         end: 0,
         delivered: 0,
     };
-    let first = supplied(input, buffer, 0, nothing);
+    let first = refill::supplied(input, buffer, 0, nothing);
     let ended = text_of_input(input, buffer, first, &mut out);
     let stop = ended.length;
     print_text(&out[0..stop], ended.delivered);

@@ -1,8 +1,14 @@
 // Reading an input of any length through one buffer.
 ghost use mathlib.Core.Path.{_≡_};
-ghost use Prim.Native.Nat.{_+_, _≤_};
+ghost use Prim.Native.Nat.{_+_, _-_, _≤_, _<_};
 ghost use lib.ListN.{length, take, drop};
 ghost use Rattle.refill.specs.Refilled.{Refilled};
+
+// What the reads have given: where the bytes in the buffer end, and how many were delivered in all.
+pub struct Supply {
+    pub end: usize,
+    pub delivered: u64,
+}
 
 // Moves n bytes from a place down to the front.
 fn move_down(buffer: &mut [u8], start: usize, n: usize)
@@ -27,4 +33,21 @@ pub fn refill(input: i32, buffer: &mut [u8], start: usize, end: usize) -> usize
     let rest = end - start;
     move_down(buffer, start, rest);
     rest + io::read_full(input, &mut buffer[rest..])
+}
+
+// Moves the bytes from start on down to the front and reads behind them. There is room, so that where nothing was read, the input has ended or cannot be read.
+pub fn supplied(input: i32, buffer: &mut [u8], start: usize, before: Supply) -> Supply
+    requires { ⌜ start ≤ before .end ⌝ }
+    requires { ⌜ before .end ≤ length (now buffer) ⌝ }
+    requires { ⌜ before .end - start < length (now buffer) ⌝ }
+    requires { ⌜ before .delivered + length (now buffer) < 18446744073709551616 ⌝ }
+    ensures filled { λ r. ⌜ Refilled start (before .end) (now (buffer .entry)) (now (buffer .exit)) (r .end) ⌝ }
+    ensures counted { λ r. ⌜ r .delivered + (before .end - start) ≡ before .delivered + r .end ⌝ }
+{
+    let rest = before.end - start;
+    let end = refill(input, buffer, start, before.end);
+    Supply {
+        end: end,
+        delivered: before.delivered + (end - rest) as u64,
+    }
 }
