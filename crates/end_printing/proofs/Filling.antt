@@ -194,6 +194,20 @@ refused-told {bytes} counted room told =
     let printed = told [] (inr refl) in
     (printed .counts, record { more = []; counted = ap (λ (l : List ℕ). length l) (append-nil bytes) ∙ counted; told = inl (printed-whole printed (omega arith)) })
 
+-- ---- counted by the first bytes and what came later
+module _ (first text : List ℕ) (delivered at-first : ℕ) (all : length first ≡ at-first) (T : Told first delivered text) where
+  -- no fewer were delivered
+  pub told-least : at-first ≤ delivered
+  told-least = omega (arith, T .counted, length-append first (T .more))
+
+  -- the sum is what was delivered
+  sum : at-first + (delivered - at-first) ≡ delivered
+  sum = omega (arith, told-least)
+
+  -- it has room, and is the input's length
+  pub told-later : delivered < 18446744073709551616 → (at-first + (delivered - at-first) < 18446744073709551616) × Told first (at-first + (delivered - at-first)) text
+  told-later fits = rw sum (fits, T)
+
 -- an input that starts with some bytes is an input, and its text is written from the front on
 pub some-input : (first out : List ℕ) (stop delivered : ℕ) → Told first delivered (take stop out) → Told [] delivered (between 0 stop out)
 some-input first out stop delivered T =

@@ -2,7 +2,7 @@
 ghost use mathlib.Core.Path.{_≡_};
 ghost use mathlib.Core.Bool.{Bool};
 ghost use mathlib.Core.List.{List, [], _++_};
-ghost use Prim.Native.Nat.{ℕ, _+_, _≤_};
+ghost use Prim.Native.Nat.{ℕ, _+_, _≤_, _<_};
 ghost use lib.ListN.{length, take};
 ghost use Rattle.model.specs.Bondtrace.{bondtrace};
 ghost use Rattle.text.specs.Writing.{Counts, Printed};
@@ -20,6 +20,12 @@ const MOST_BYTES: u64 = 9223372036854775808;
 struct Ended {
     length: usize,
     delivered: u64,
+}
+
+// A text of so many bytes, and how many bytes of input were delivered behind those of the first read.
+struct Text {
+    length: usize,
+    later: u64,
 }
 
 // The text when nothing more is played: each byte that was delivered was played or is left.
@@ -76,25 +82,30 @@ fn play_on(input: i32, opened: Playback, buffer: &mut [u8], first: Supply, out: 
 }
 
 // The text of the input that starts with the bytes in the buffer.
-fn text_of_input(input: i32, buffer: &mut [u8], first: Supply, out: &mut [u8]) -> Ended
+fn text_of_input(input: i32, buffer: &mut [u8], first: Supply, out: &mut [u8]) -> Text
     requires { ⌜ first .delivered ≡ first .end ⌝ }
     requires { ⌜ first .end ≤ 65536 ⌝ }
     requires { ⌜ length (now buffer) ≡ 65536 ⌝ }
     requires { ⌜ length (now out) ≡ 4096 ⌝ }
     ensures counts { λ r. ⌜ Counts (r .length) (now (out .exit)) ⌝ }
-    ensures told { λ r. ⌜ Told (take (first .end) (now (buffer .entry))) (r .delivered) (take (r .length) (now (out .exit))) ⌝ }
+    ensures room { λ r. ⌜ first .delivered + r .later < 18446744073709551616 ⌝ }
+    ensures told { λ r. ⌜ Told (take (first .end) (now (buffer .entry))) (first .delivered + r .later) (take (r .length) (now (out .exit))) ⌝ }
 {
     let end = first.end;
     let opened = opening::open(&buffer[..end]);
     if opened.number != 0 {
         let length = played_text::refused_text(opened.number, &buffer[..end], out);
-        return Ended {
+        return Text {
             length: length,
-            delivered: first.delivered,
+            later: 0,
         };
     }
     let playback = opened.playback;
-    play_on(input, playback, buffer, first, out)
+    let ended = play_on(input, playback, buffer, first, out);
+    Text {
+        length: ended.length,
+        later: ended.delivered - first.delivered,
+    }
 }
 
 // Prints a text: that of some input of so many bytes.
@@ -114,7 +125,7 @@ pub fn run(input: i32) {
         delivered: 0,
     };
     let first = refill::supplied(input, buffer, 0, nothing);
-    let ended = text_of_input(input, buffer, first, &mut out);
-    let stop = ended.length;
-    print_text(&out[0..stop], ended.delivered);
+    let text = text_of_input(input, buffer, first, &mut out);
+    let stop = text.length;
+    print_text(&out[0..stop], first.delivered + text.later);
 }

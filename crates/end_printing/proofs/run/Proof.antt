@@ -5,8 +5,8 @@ use Rattle.end_printing.proofs.run.Tie as tie
 
 print-text-requires : tie.Need-print-text-requires
 print-text-requires c κs =
-    let told = c .before .before .before .before .text-of-input in
-    some-input _ (told .last .1 .1 .1 .0) (told .result .length) _ (told .ensures .1)
+    let text = c .before .before .before .before .before .before .text-of-input in
+    some-input _ (text .last .1 .1 .1 .0) (text .result .length) _ (text .ensures .1 .1)
 
 pub run-spec : {M : Type 1} → statement M
 run-spec =
@@ -18,6 +18,7 @@ run-spec =
     (λ c κs. search needs)
     (λ c. search needs)
     (λ c κs. search needs)
+    (λ c. search needs)
     (λ c. search needs)
     (λ c. search needs)
     (λ c. search needs)
