@@ -2,7 +2,7 @@
 ghost use mathlib.Core.Path.{_≡_};
 ghost use mathlib.Core.List.{List, []};
 ghost use Prim.Native.Nat.{ℕ};
-ghost use Rattle.model.specs.Threads.{noOperation, newThread, newTable};
+ghost use Rattle.model.specs.Threads.{newThread, newTable};
 ghost use Rattle.model.specs.Calls.{Call};
 ghost use Rattle.model.specs.Refusals.{refusal};
 ghost use Rattle.model.specs.Promise.{state, Promise};
@@ -10,28 +10,9 @@ ghost use Rattle.core.specs.Places.{orOwn};
 use model::Answer;
 use model::Operation;
 use model::Queue;
-use model::Receive;
 use model::Returned;
-use model::SendPart;
 use model::Table;
 use model::Thread;
-
-// No operation.
-fn no_operation() -> Operation
-    ensures { λ r. ⌜ r ≡ noOperation ⌝ }
-{
-    let send = SendPart {
-        present: false,
-        target: 0,
-        count: 0,
-        time: 0,
-        words: [0; 8],
-    };
-    Operation {
-        send: send,
-        receive: Receive::Absent,
-    }
-}
 
 // A thread of a new table.
 fn new_thread() -> Thread
@@ -44,7 +25,7 @@ fn new_thread() -> Thread
     Thread {
         flags: threads::no_flags(),
         phase: threads::IDLE,
-        op: no_operation(),
+        op: threads::no_operation(),
         left: 0,
         queue: queue,
         owner: threads::NOBODY,

@@ -15,7 +15,7 @@ use Rattle.model.specs.Threads.{newTable, at}
 use Rattle.model.specs.Calls.{Call, begin, cancel}
 use Rattle.model.specs.Promise.{state}
 use Rattle.model.specs.Examples.{sendTo, receiveOnly, openFor, closedFor, steps, worked}
-use Rattle.model.proofs.Computing.{computing}
+use Rattle.model.proofs.Printed.{afterPrinted}
 
 -- every answer of some calls, and each thread's outcome after them
 pub record Shown : Type 0 where
@@ -101,7 +101,7 @@ row marked-receiver-sender-waits = shows
 
 -- each row's calls show what it says
 pub answered : (name : Name) → showing (row name .calls) ≡ row name .shown
-unfolding computing showing row
+unfolding afterPrinted showing row
 answered begin-while-held = refl
 answered held-in-look = refl
 answered lock-taken = refl
@@ -112,3 +112,8 @@ answered past-an-unacceptable-sender = refl
 answered late-past-an-unacceptable-sender = refl
 answered marked-sender-target-ready = refl
 answered marked-receiver-sender-waits = refl
+
+-- opens what the rows of the next file are worked out from, once those of this file hold
+unfoldable pub afterAnswered : ℕ
+unfolding afterPrinted
+afterAnswered = let rows = answered in 0

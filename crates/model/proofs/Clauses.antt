@@ -15,7 +15,7 @@ use Rattle.model.specs.Threads.{newTable, edit, withFlags, entering, wit
 use Rattle.model.specs.WellFormed.{clauses, wellFormed}
 use Rattle.model.specs.Calls.{beginTable}
 use Rattle.model.specs.Examples.{sendTo, receiveOnly, openFor, closedFor, flags}
-use Rattle.model.proofs.Computing.{computing}
+use Rattle.model.proofs.Forbidden.{afterForbidden}
 
 -- the places of a list of tests at which one fails
 unfoldable pub failing : ℕ → List Bool → List ℕ
@@ -132,7 +132,7 @@ place copiesToOther = 16
 
 -- opens the tables above
 unfoldable pub tables : ℕ
-unfolding computing failing receiver sender locker copier crossed wakerIn waker broken place
+unfolding afterForbidden failing receiver sender locker copier crossed wakerIn waker broken place
 tables = 0
 
 -- each table breaks its own clause and no other
@@ -238,3 +238,8 @@ odd-accepted countAlone = refl
 odd-accepted neverBegunInRelease = refl
 odd-accepted endedNumbers = refl
 odd-accepted pastTheQueue = refl
+
+-- opens what the rows of the next file are worked out from, once those of this file hold
+unfoldable pub afterClauses : ℕ
+unfolding afterForbidden
+afterClauses = let first = clause-counts in let second = number-counts in let third = odd-accepted in 0

@@ -1,4 +1,6 @@
 -- Names that open definitions, one for each file and one for all: a proof that says `unfolding computing` works a closed case out.
+-- The files of rows stand in a chain, `LawfulBytes` first and `Replays`, the dearest, last: each ends with a name, as `afterForbidden`, that opens what `computing` opens and rests on the rows
+-- of its file, and the next file works its rows out by that name. So where a row fails, those behind it are refused at once, and a must-fail edit of the definitions costs half.
 use Prim.Native.Nat.{ℕ}
 use Rattle.model.specs.Lists
 use Rattle.model.specs.Codes
@@ -34,11 +36,18 @@ unfolding Codes.isFailure Times.isTimeCode Times.isLeft Times.tickCount Times.fa
 shared = 0
 
 unfoldable pub threads : ℕ
-unfolding Phases.phaseOf Phases.isOneOf Threads.noOperation Threads.newThread Threads.newTable Threads.at Threads.put Threads.edit Threads.editBelow Queues.senders Queues.joined Queues.departed Locks.lockFree Queues.searchPlace Queues.findSender Queues.ready Locks.lockHeld Store.wordCopied Store.wordsAt Store.zeroed
+unfolding Phases.phaseOf Phases.isOneOf Threads.noOperation Threads.newThread Threads.newTable Threads.at Threads.put Threads.edit Threads.editBelow
+    Queues.senders Queues.joined Queues.departed Locks.lockFree Queues.searchPlace Queues.findSender Queues.ready Locks.lockHeld Store.wordCopied
+    Store.wordsAt Store.zeroed
 threads = 0
 
 unfoldable pub clauses : ℕ
-unfolding WellFormed.sizeInRange WellFormed.inPhase WellFormed.isCode WellFormed.nobodyOrBelow WellFormed.sendInRange WellFormed.receiveInRange WellFormed.numbersInRange WellFormed.ipcWithRunning WellFormed.bareUnlessDone WellFormed.notWithItself WellFormed.sendAndMarkWithIpc WellFormed.pollWithSend WellFormed.receivingWithPart WellFormed.ipcWithoutSend WellFormed.idleWithoutFlags WellFormed.releaseHasTarget WellFormed.receiversSendClear WellFormed.sendersSendSet WellFormed.copiesToReady WellFormed.sendsTo WellFormed.within WellFormed.ownerOf WellFormed.chain WellFormed.each WellFormed.allUnder WellFormed.queueTest WellFormed.ownerTest WellFormed.chainTest WellFormed.clauses WellFormed.wellFormed
+unfolding WellFormed.sizeInRange WellFormed.inPhase WellFormed.isCode WellFormed.nobodyOrBelow WellFormed.sendInRange WellFormed.receiveInRange
+    WellFormed.numbersInRange WellFormed.ipcWithRunning WellFormed.bareUnlessDone WellFormed.notWithItself WellFormed.sendAndMarkWithIpc
+    WellFormed.pollWithSend WellFormed.receivingWithPart WellFormed.ipcWithoutSend WellFormed.idleWithoutFlags WellFormed.releaseHasTarget
+    WellFormed.receiversSendClear WellFormed.sendersSendSet WellFormed.copiesToReady WellFormed.sendsTo WellFormed.within WellFormed.ownerOf
+    WellFormed.chain WellFormed.each WellFormed.allUnder WellFormed.queueTest WellFormed.ownerTest WellFormed.chainTest WellFormed.clauses
+    WellFormed.wellFormed
 clauses = 0
 
 unfoldable pub steps : ℕ
@@ -46,15 +55,20 @@ unfolding Step.other Step.lookAt Step.decideIn Step.decide Step.replyOf Step.own
 steps = 0
 
 unfoldable pub calls : ℕ
-unfolding Calls.begunFlags Calls.begun Calls.beginTable Calls.cancelTable Calls.cancelReply Calls.ticked Calls.tickTable Calls.acceptedReply Calls.acceptedState
+unfolding Calls.begunFlags Calls.begun Calls.beginTable Calls.cancelTable Calls.cancelReply Calls.ticked Calls.tickTable Calls.acceptedReply
+    Calls.acceptedState
 calls = 0
 
 unfoldable pub refusals : ℕ
-unfolding Refusals.firstRefusal Refusals.unless Refusals.badSize Refusals.notWellFormed Refusals.noThread Refusals.badLength Refusals.lockOwned Refusals.notIdle Refusals.neitherPart Refusals.withItself Refusals.noPartner Refusals.tooManyWords Refusals.badTime Refusals.tableRows Refusals.argumentRows Refusals.beginRows Refusals.laterRows Refusals.rowsOf Refusals.refusal Refusals.makeRefusal Refusals.outcomeRefusal Refusals.reportRefusal
+unfolding Refusals.firstRefusal Refusals.unless Refusals.badSize Refusals.notWellFormed Refusals.noThread Refusals.badLength Refusals.lockOwned
+    Refusals.notIdle Refusals.neitherPart Refusals.withItself Refusals.noPartner Refusals.tooManyWords Refusals.badTime Refusals.tableRows
+    Refusals.argumentRows Refusals.beginRows Refusals.laterRows Refusals.rowsOf Refusals.refusal Refusals.makeRefusal Refusals.outcomeRefusal
+    Refusals.reportRefusal
 refusals = 0
 
 unfoldable pub promises : ℕ
-unfolding Promise.answer Promise.next Promise.makeAnswer Promise.madeTable Promise.view Promise.outcomeAnswer Promise.outcomeWords Promise.outcomePlace Promise.reportAnswer Promise.reportAfter
+unfolding Promise.answer Promise.next Promise.makeAnswer Promise.madeTable Promise.view Promise.outcomeAnswer Promise.outcomeWords
+    Promise.outcomePlace Promise.reportAnswer Promise.reportAfter
 promises = 0
 
 unfoldable pub events : ℕ
@@ -74,11 +88,15 @@ unfolding Linearized.eventOf Linearized.acceptedEntry Linearized.entry Linearize
 orders = 0
 
 unfoldable pub bytes : ℕ
-unfolding RecordBytes.recordLength RecordBytes.wordAt RecordBytes.sendBit RecordBytes.receiveBit RecordBytes.openBit RecordBytes.lawfulBegin RecordBytes.lawful Decoding.operationOf Decoding.recordOf Decoding.front Decoding.unreadable Decoding.decodeRefusal Decoding.decodeAnswer Decoding.decode Encoding.wordBytes Encoding.partsOf Encoding.operationBytes Encoding.encode Encoding.allZero Encoding.lawfulRecord Encoding.unwritable Encoding.encodeRefusal Encoding.encodeAnswer Encoding.encodeBuffer Schedule.readFrom Schedule.decodeAll Schedule.encodeAll
+unfolding RecordBytes.recordLength RecordBytes.wordAt RecordBytes.sendBit RecordBytes.receiveBit RecordBytes.openBit RecordBytes.lawfulBegin
+    RecordBytes.lawful Decoding.operationOf Decoding.recordOf Decoding.front Decoding.unreadable Decoding.decodeRefusal Decoding.decodeAnswer
+    Decoding.decode Encoding.wordBytes Encoding.partsOf Encoding.operationBytes Encoding.encode Encoding.allZero Encoding.lawfulRecord
+    Encoding.unwritable Encoding.encodeRefusal Encoding.encodeAnswer Encoding.encodeBuffer Schedule.readFrom Schedule.decodeAll Schedule.encodeAll
 bytes = 0
 
 unfoldable pub texts : ℕ
-unfolding Bondtrace.ascii Bondtrace.digits Bondtrace.decimal Bondtrace.signed Bondtrace.callOf Bondtrace.recordPlayed Bondtrace.recordsPlayed Bondtrace.started Bondtrace.threadLine Bondtrace.finalText Bondtrace.badLine Bondtrace.callsText Bondtrace.readingText Bondtrace.bondtrace
+unfolding Bondtrace.ascii Bondtrace.digits Bondtrace.decimal Bondtrace.signed Bondtrace.callOf Bondtrace.recordPlayed Bondtrace.recordsPlayed
+    Bondtrace.started Bondtrace.threadLine Bondtrace.finalText Bondtrace.badLine Bondtrace.callsText Bondtrace.readingText Bondtrace.bondtrace
 texts = 0
 
 unfoldable pub rows : ℕ

@@ -9,7 +9,7 @@ use Rattle.model.specs.Codes.{done, noReceiver, receiveTimeOver, sendTim
 use Rattle.model.specs.Atomic.{Machine, firstMachine, Event, begins, cancels, ticks, rendezvous, aborts, play}
 use Rattle.model.specs.Examples.{sendTo, receiveOnly, openFor, closedFor}
 use Rattle.model.proofs.Replay.{canTest}
-use Rattle.model.proofs.Computing.{computing}
+use Rattle.model.proofs.LawfulBytes.{afterLawfulBytes}
 
 -- from p on, in a machine of three threads, each event but the last is allowed where it stands, and the last is not
 unfoldable pub onlyLastForbidden : Machine → List Event → Bool
@@ -71,7 +71,7 @@ row aborted-nothing = sends 15 ∷ cancels 0 ∷ aborts 0 sendCancelled ∷ abor
 
 -- each row's last event is not allowed, and those before it are
 pub not-allowed : (name : Name) → onlyLastForbidden firstMachine (row name) ≡ true
-unfolding computing onlyLastForbidden row
+unfolding afterLawfulBytes onlyLastForbidden row
 not-allowed begun-while-running = refl
 not-allowed begun-beyond = refl
 not-allowed cancelled-beyond = refl
@@ -95,3 +95,8 @@ not-allowed receive-late-sending = refl
 not-allowed aborted-with-done = refl
 not-allowed aborted-with-no-receiver = refl
 not-allowed aborted-nothing = refl
+
+-- opens what the rows of the next file are worked out from, once those of this file hold
+unfoldable pub afterForbidden : ℕ
+unfolding afterLawfulBytes
+afterForbidden = let rows = not-allowed in 0

@@ -6,12 +6,12 @@ pub mod Chains
 pub mod Tested
 pub mod Replay
 pub mod Computing
-pub mod Examples
-pub mod Answered
-pub mod Replays
+pub mod LawfulBytes
 pub mod Forbidden
 pub mod Clauses
-pub mod Making
+pub mod Examples
 pub mod Printed
-pub mod LawfulBytes
+pub mod Answered
+pub mod Replays
+pub mod Making
 pub mod Free

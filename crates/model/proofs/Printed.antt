@@ -10,7 +10,7 @@ use Rattle.model.specs.Threads.{noOperation}
 use Rattle.model.specs.Schedule.{encodeAll, decodeAll}
 use Rattle.model.specs.Bondtrace.{ascii, bondtrace}
 use Rattle.model.specs.Examples.{sendTo, receiveOnly, openFor}
-use Rattle.model.proofs.Computing.{computing}
+use Rattle.model.proofs.Examples.{afterExamples}
 
 -- a record without an operation, and a begin
 abbrev short : ℕ → ℕ → Record
@@ -40,24 +40,29 @@ p1Bytes =
     ∷ []
 
 pub p1-encoded : encodeAll p1 ≡ p1Bytes
-unfolding computing p1 p1Bytes
+unfolding afterExamples p1 p1Bytes
 p1-encoded = refl
 
 pub p1-decoded : decodeAll p1Bytes .records ≡ p1
-unfolding computing p1 p1Bytes
+unfolding afterExamples p1 p1Bytes
 p1-decoded = refl
 
 -- "P1 below prints exactly"
 pub p1-printed : bondtrace p1Bytes ≡ ascii "records 9 refused 0\n0 0 255 0\n1 0 0 1 250\n"
-unfolding computing p1Bytes
+unfolding afterExamples p1Bytes
 p1-printed = refl
 
 -- "`bad 12 at 46`": P1 cut short within its third record
 pub cut-short : bondtrace (take 60 p1Bytes) ≡ ascii "bad 12 at 46\n"
-unfolding computing p1Bytes
+unfolding afterExamples p1Bytes
 cut-short = refl
 
 -- "input empty"
 pub empty-input : bondtrace [] ≡ ascii "bad 12 at 0\n"
-unfolding computing
+unfolding afterExamples
 empty-input = refl
+
+-- opens what the rows of the next file are worked out from, once those of this file hold
+unfoldable pub afterPrinted : ℕ
+unfolding afterExamples
+afterPrinted = let first = p1-encoded in let second = p1-decoded in let third = p1-printed in let fourth = cut-short in let fifth = empty-input in 0

@@ -27,9 +27,13 @@ cancelKind = 3
 abbrev pub tickKind : ℕ
 tickKind = 4
 
+-- "others 4": the bytes of a record that is no begin, and of the head that every record has
+abbrev pub headLength : ℕ
+headLength = 4
+
 -- begin is "42 bytes in all, others 4"
 unfoldable pub recordLength : ℕ → ℕ
-recordLength kind = cond (eqb kind beginKind) 42 4
+recordLength kind = cond (eqb kind beginKind) 42 headLength
 
 -- the bytes of the longest record
 abbrev pub longestRecord : ℕ

@@ -4,7 +4,7 @@ use mathlib.Core.List.{List}
 use Prim.Native.Nat.{ℕ, _≤_}
 use Rattle.model.specs.Threads.{newTable}
 use Rattle.model.specs.Refusals.{unless, makeRefusal}
-use Rattle.model.specs.RecordBytes.{threadByte, lawful}
+use Rattle.model.specs.RecordBytes.{headLength, threadByte, lawful}
 use Rattle.model.specs.Decoding.{front}
 use Rattle.core.specs.Runnable.{Checked}
 use Rattle.opening.specs.declared.Playback.{Playback}
@@ -19,7 +19,7 @@ openSize input = unless (openRefusal input) (λ g. 0) (threadByte input)
 
 -- only a table record of n threads is played
 unfoldable pub opened : ℕ → Playback
-opened n = record { table = newTable n; records = 1; refused = 0; place = 4 }
+opened n = record { table = newTable n; records = 1; refused = 0; place = headLength }
 
 -- a playback that can go on: its table has passed the check, or was left by calls that started from one that had, and no count is ahead of the bytes
 pub record Steady (t : Playback) : Type 0 where

@@ -2,6 +2,7 @@
 ghost use mathlib.Core.Path.{_≡_};
 ghost use Prim.Native.Nat.{_≤_};
 ghost use lib.ListN.{length};
+ghost use Rattle.model.specs.RecordBytes.{headLength};
 ghost use Rattle.opening.specs.Opened.{openSize, openRefusal, opened, Steady};
 use model::Table;
 
@@ -27,7 +28,7 @@ fn fresh(n: u8) -> Playback
         table: core::new_table(n),
         records: 1,
         refused: 0,
-        place: 4,
+        place: reading::HEAD_BYTES as u64,
     }
 }
 
@@ -35,7 +36,7 @@ fn fresh(n: u8) -> Playback
 pub fn open(bytes: &[u8]) -> Opened
     ensures number { λ r. ⌜ r .number ≡ openRefusal (now (bytes .entry)) ⌝ }
     ensures playback { λ r. ⌜ r .playback ≡ opened (openSize (now (bytes .entry))) ⌝ }
-    ensures steady { λ r. ⌜ (r .number ≡ 0 → (4 ≤ length (now (bytes .entry))) × Steady (r .playback)) ⌝ }
+    ensures steady { λ r. ⌜ (r .number ≡ 0 → (headLength ≤ length (now (bytes .entry))) × Steady (r .playback)) ⌝ }
 {
     if !reading::is_lawful(true, bytes) {
         return Opened {

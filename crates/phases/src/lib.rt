@@ -35,6 +35,7 @@ fn in_lock(x: u8, own: Thread, other: Thread) -> Change
 fn in_check(x: u8, own: Thread, other: Thread) -> Change
     ensures { λ r. ⌜ Acted (decideIn check x own other) x own other r ⌝ }
 {
+    // what is tested is read first, so that below stands the order of the tests and nothing else
     let ready = threads::is_ready(other, x);
     let late = own.left == 0;
     if own.flags.mark {
@@ -165,13 +166,13 @@ pub fn other_number(own: Thread) -> u8
     let send = op.send;
     let phase = own.phase;
     match phase {
-        1 => send.target,
-        2 => send.target,
-        3 => send.target,
-        4 => send.target,
-        6 => queues::first_acceptable(own),
-        7 => own.waking,
-        8 => own.waking,
+        threads::LOCK => send.target,
+        threads::CHECK => send.target,
+        threads::COPY => send.target,
+        threads::RELEASE => send.target,
+        threads::LOOK => queues::first_acceptable(own),
+        threads::WAKE => own.waking,
+        threads::UNLOCK => own.waking,
         _ => threads::NOBODY,
     }
 }
@@ -185,15 +186,15 @@ pub fn step_threads(x: u8, o: u8, own: Thread, other: Thread, words: &mut [u32])
 {
     let phase = own.phase;
     match phase {
-        0 => in_idle(x, own, other),
-        1 => in_lock(x, own, other),
-        2 => in_check(x, own, other),
-        3 => in_copy(x, own, other, words),
-        4 => in_release(x, own, other),
-        5 => in_sleep(x, own, other),
-        6 => in_look(x, o, own, other),
-        7 => in_wake(x, own, other),
-        8 => in_unlock(x, own, other),
+        threads::IDLE => in_idle(x, own, other),
+        threads::LOCK => in_lock(x, own, other),
+        threads::CHECK => in_check(x, own, other),
+        threads::COPY => in_copy(x, own, other, words),
+        threads::RELEASE => in_release(x, own, other),
+        threads::SLEEP => in_sleep(x, own, other),
+        threads::LOOK => in_look(x, o, own, other),
+        threads::WAKE => in_wake(x, own, other),
+        threads::UNLOCK => in_unlock(x, own, other),
         _ => in_idle(x, own, other),
     }
 }

@@ -11,7 +11,6 @@ ghost use Rattle.reading.specs.Heads.{lawfulHead};
 use model::Answer;
 use model::Decoded;
 use model::Operation;
-use model::Receive;
 use model::Record;
 use model::SendPart;
 
@@ -138,21 +137,10 @@ pub fn operation_at(bytes: &[u8]) -> Operation
 fn bare_record(kind: u8, thread: u8) -> Record
     ensures { λ r. ⌜ r ≡ record { kind = kind; thread = thread; op = noOperation } ⌝ }
 {
-    let send = SendPart {
-        present: false,
-        target: 0,
-        count: 0,
-        time: 0,
-        words: [0; 8],
-    };
-    let op = Operation {
-        send: send,
-        receive: Receive::Absent,
-    };
     Record {
         kind: kind,
         thread: thread,
-        op: op,
+        op: threads::no_operation(),
     }
 }
 

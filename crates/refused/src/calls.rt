@@ -52,16 +52,6 @@ fn filled_store() -> [u32; 264]
     [WORD; 264]
 }
 
-// The lesser of two numbers.
-pub fn lesser(a: usize, b: usize) -> usize
-    ensures { λ r. ⌜ r ≤ b ⌝ }
-{
-    if a < b {
-        return a;
-    }
-    b
-}
-
 // Prints bytes.
 pub fn print(bytes: &[u8]) {
     io::write_all(STDOUT_FILENO, bytes);
@@ -106,14 +96,14 @@ fn call(which: u8, table: Table, given: Arguments, store: &mut [u32]) -> Returne
 // The table after the beginner begins, or the refusal.
 pub fn begun(table: Table, given: Arguments) -> Returned {
     let mut store = filled_store();
-    let k = lesser(given.words, WORDS);
+    let k = numbers::lesser(given.words, WORDS);
     call(BEGIN, table, given, &mut store[0..k])
 }
 
 // Prints what a call that returns a table answers and changes.
 fn change(name: &[u8], which: u8, table: Table, given: Arguments) {
     let mut store = filled_store();
-    let k = lesser(given.words, WORDS);
+    let k = numbers::lesser(given.words, WORDS);
     let after = call(which, table, given, &mut store[0..k]);
     let answer = after.answer;
     let next = after.table;
@@ -132,7 +122,7 @@ pub fn begin(table: Table, given: Arguments) {
 fn outcome(table: Table, given: Arguments) {
     let store = filled_store();
     let x = given.thread;
-    let k = lesser(given.words, WORDS);
+    let k = numbers::lesser(given.words, WORDS);
     print(b", outcome ");
     let answer = outcomes::outcome_answer(table, x, &store[0..k]);
     match answer {
@@ -158,7 +148,7 @@ fn fill(table: Table, records: [Outcome; 33], len: usize) -> Filled
 
 // Report.
 pub fn report(table: Table, records: usize) {
-    let k = lesser(records, RECORDS);
+    let k = numbers::lesser(records, RECORDS);
     let record = blank();
     let filled = fill(table, [record; 33], k);
     let answer = filled.answer;
@@ -200,15 +190,15 @@ fn print_record(record: Outcome) {
 pub fn values(table: Table, x: u8) {
     let store = marked_store();
     let n = table.n as usize;
-    let k = lesser(8 * n, WORDS);
+    let k = numbers::lesser(8 * n, WORDS);
     let words = outcomes::outcome_words(table, x, &store[0..k]);
     let mut line = io::buffer();
     let end = text::put_words(&mut line, 0, words);
-    let stop = lesser(end, line.len());
+    let stop = numbers::lesser(end, line.len());
     print(b": words");
     io::write_all(STDOUT_FILENO, &line[0..stop]);
     let record = blank();
-    let filled = fill(table, [record; 33], lesser(n, RECORDS));
+    let filled = fill(table, [record; 33], numbers::lesser(n, RECORDS));
     let records = filled.records;
     print_record(records[0]);
     print_record(records[1]);

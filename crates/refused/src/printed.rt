@@ -7,7 +7,7 @@ use model::Answer;
 pub fn print_answer(answer: Answer) {
     let mut line = io::buffer();
     let end = text::put_answer(&mut line, 0, answer);
-    let stop = lesser(end, line.len());
+    let stop = numbers::lesser(end, line.len());
     print(&line[0..stop]);
 }
 
@@ -15,6 +15,6 @@ pub fn print_answer(answer: Answer) {
 pub fn print_signed(code: i32) {
     let mut line = io::buffer();
     let end = text::put_signed(&mut line, 0, code);
-    let stop = lesser(end, line.len());
+    let stop = numbers::lesser(end, line.len());
     print(&line[0..stop]);
 }

@@ -18,7 +18,7 @@ const WORD_BYTES: usize = 32;
 fn with_words(bytes: [u8; 42], count: u8) -> [u8; 42]
     ensures { λ r. ⌜ 42 ≡ length r ⌝ }
 {
-    let end = lesser(4 * (count as usize), WORD_BYTES);
+    let end = numbers::lesser(4 * (count as usize), WORD_BYTES);
     let mut next = bytes;
     let mut i: usize = 0;
     while i < end {

@@ -108,7 +108,7 @@ fn written(first: bool, numbers: [u8; 10]) {
         op: op,
     };
     let mut bytes = [BYTE; 44];
-    let len = calls::lesser(length as usize, 44);
+    let len = numbers::lesser(length as usize, 44);
     let answer = writing::write(first, item, &mut bytes[0..len]);
     calls::print(b": ");
     printed::print_answer(answer);

@@ -4,13 +4,14 @@ ghost use mathlib.Core.Bool.{cond};
 ghost use Rattle.model.specs.Codes.{isFailure, codeOnly};
 ghost use Rattle.model.specs.Times.{tickCount, fall};
 ghost use Rattle.model.specs.Operations.{hasReceive, receiveTime, openPart, closedOn, accepts, closedBeyond};
-ghost use Rattle.model.specs.Threads.{noFlags, ended, marked, withoutReceive};
+ghost use Rattle.model.specs.Threads.{noFlags, noOperation, ended, marked, withoutReceive};
 ghost use Rattle.model.specs.Queues.{ready};
 ghost use Rattle.model.specs.Calls.{ticked};
 use model::Flags;
 use model::Operation;
 use model::Outcome;
 use model::Receive;
+use model::SendPart;
 use model::Thread;
 
 // The codes of document 01; every failure is below zero.
@@ -228,6 +229,23 @@ pub fn end_with_code(h: Thread, code: i32) -> Thread
 {
     let outcome = code_only(code);
     end_with(h, outcome)
+}
+
+// No operation.
+pub fn no_operation() -> Operation
+    ensures { λ r. ⌜ r ≡ noOperation ⌝ }
+{
+    let send = SendPart {
+        present: false,
+        target: 0,
+        count: 0,
+        time: 0,
+        words: [0; 8],
+    };
+    Operation {
+        send: send,
+        receive: Receive::Absent,
+    }
 }
 
 // The receive part dropped.

@@ -28,23 +28,13 @@ pub fn zero_thread(store: &mut [u32], x: u8)
     zero_words(&mut store[start..end]);
 }
 
-// The lesser of two numbers.
-pub fn lesser(a: usize, b: usize) -> usize
-    ensures { λ r. ⌜ r ≡ min a b ⌝ }
-{
-    if a < b {
-        return a;
-    }
-    b
-}
-
 // The first count of thread x's eight words, as a slice of the store, as far as the store has them.
 pub fn first_words<'a>(store: &'a [u32], x: u8, count: u8) -> &'a [u32]
     ensures words { λ r. ⌜ now r ≡ take count (wordsAt (now (store .entry)) x) ⌝ }
     ensures place { λ r. ⌜ (r .ptr .0 ≡ store .entry .ptr .0) × (r .ptr .1 ≡ store .entry .ptr .1 + 4 * min (8 * x) (length (now (store .entry)))) ⌝ }
 {
-    let start = lesser(WORDS * (x as usize), store.len());
-    let most = lesser(count as usize, WORDS);
-    let end = lesser(start + most, store.len());
+    let start = numbers::lesser(WORDS * (x as usize), store.len());
+    let most = numbers::lesser(count as usize, WORDS);
+    let end = numbers::lesser(start + most, store.len());
     &store[start..end]
 }

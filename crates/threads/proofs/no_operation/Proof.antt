@@ -1,7 +1,7 @@
 use mathlib.Core.Path.{refl}
 use Rattle.model.specs.Threads.{noOperation}
-use Rattle.core.proofs.no_operation.Statement.{statement}
-use Rattle.core.proofs.no_operation.Tie as tie
+use Rattle.threads.proofs.no_operation.Statement.{statement}
+use Rattle.threads.proofs.no_operation.Tie as tie
 
 returns : tie.Need-returns
 unfolding noOperation
