@@ -1,5 +1,4 @@
 // Answers and codes printed.
-use crate::calls::lesser;
 use crate::calls::print;
 use model::Answer;
 

@@ -1,7 +1,6 @@
 // The commands that make a table, or set one field of one thread.
 ghost use mathlib.Core.Path.{_≡_};
 ghost use lib.ListN.{length};
-use crate::calls::lesser;
 use crate::lines;
 use crate::lines::Line;
 use model::Flags;
