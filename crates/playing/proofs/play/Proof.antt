@@ -95,10 +95,7 @@ one-more : (m : Measured) → top (turn m) .loop .refused + 1 < 1844674407370955
 one-more m = refused-fit (top (turn m) .loop .inv) (good (turn m))
 
 -- a tick: every thread is ticked
-abbrev Ticked : Type 0
-Ticked = tie.After-loop2 Inv-loop2 μ-loop2 Inv-loop μ-loop
-
-abbrev ticks : Ticked → Measured
+abbrev ticks : tie.After-loop2 Inv-loop2 μ-loop2 Inv-loop μ-loop → Measured
 ticks k = k .before .before .before
 
 -- a call of a thread of the table
@@ -177,25 +174,19 @@ Ends = tie.Then6 Inv-loop2 μ-loop2 Inv-loop μ-loop
 abbrev stepped : Ends → Stepped
 stepped e = e .before .before .before .before
 
--- both threads are as the ending leaves them
-abbrev Ended : Type 0
-Ended = tie.After-mine2 Inv-loop2 μ-loop2 Inv-loop μ-loop
-
-abbrev ends : Ended → Ends
+-- both threads are as the ending leaves them, and not yet in the table
+abbrev ends : tie.After-mine2 Inv-loop2 μ-loop2 Inv-loop μ-loop → Ends
 ends f = f .before .before .before .before .before
 
--- nothing ends with it: the other thread is changed
+-- nothing ends with it: the other thread is changed in the table
 abbrev Half : Type 0
 Half = tie.After-change-other Inv-loop2 μ-loop2 Inv-loop μ-loop
 
 abbrev on : Half → Stepped
 on h = h .before .before .before .before .before
 
--- and the own thread
-abbrev Changed : Type 0
-Changed = tie.After-change-own Inv-loop2 μ-loop2 Inv-loop μ-loop
-
-abbrev half : Changed → Half
+-- and so is its own
+abbrev half : tie.After-change-own Inv-loop2 μ-loop2 Inv-loop μ-loop → Half
 half f = f .before
 
 -- a cancel
@@ -206,10 +197,7 @@ abbrev cancelling : Cancels → Below
 cancelling k = k .before .before .before
 
 -- of a thread whose lock is free: it is marked if its operation runs
-abbrev Marked : Type 0
-Marked = tie.After-mark-running Inv-loop2 μ-loop2 Inv-loop μ-loop
-
-abbrev cancels : Marked → Cancels
+abbrev cancels : tie.After-mark-running Inv-loop2 μ-loop2 Inv-loop μ-loop → Cancels
 cancels f = f .before .before .before
 
 -- a begin: no tick, no step and no cancel
@@ -269,17 +257,11 @@ abbrev joins : Joined → Joins
 joins q = q .before .before
 
 -- and has begun
-abbrev Begun : Type 0
-Begun = tie.After-begin-own Inv-loop2 μ-loop2 Inv-loop μ-loop
-
-abbrev joined : Begun → Joined
+abbrev joined : tie.After-begin-own Inv-loop2 μ-loop2 Inv-loop μ-loop → Joined
 joined f = f .before .before
 
 -- the loop is left: no lawful record comes next
-abbrev Over : Type 0
-Over = tie.Else1 Inv-loop2 μ-loop2 Inv-loop μ-loop
-
-abbrev last : Over → Top
+abbrev last : tie.Else1 Inv-loop2 μ-loop2 Inv-loop μ-loop → Top
 last o = o .before .before .before
 
 -- ---- the loop is reached, and a record is read
