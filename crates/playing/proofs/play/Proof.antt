@@ -113,7 +113,11 @@ x b = threadByte (rest (turn (measured b)))
 abbrev was : Below → State
 was b = let l = top (turn (measured b)) in state (l .loop .now) (l .loop .store)
 
--- its table has its shape
+-- its table has as many threads as the first one
+sized : (b : Below) → was b .table .n ≡ start (top (turn (measured b))) .args .from .table .n
+sized b = top (turn (measured b)) .loop .inv .size
+
+-- and has its shape
 shaped : (b : Below) → Shaped (was b .table)
 shaped b = top (turn (measured b)) .loop .inv .runnable .checked .shaped
 
@@ -218,7 +222,7 @@ asks a = a .before .before
 rows : (a : Asked) → let b = beginning (asks a) in
     a .begin-refusal .result ≡ firstRefusal (beginRows (was b .table) (x b) (a .before .operation-at .result))
 unfolding at
-rows a = a .begin-refusal .ensures _ (top (turn (measured (beginning (asks a)))) .loop .inv .size) refl
+rows a = a .begin-refusal .ensures _ (sized (beginning (asks a))) refl
 
 -- none refuses it
 abbrev Begins : Type 0
@@ -245,9 +249,7 @@ begins j = j .before .before .before .before .before
 
 -- and is in the array
 joined-there : (j : Joins) → j .joined-thread .result < 32
-joined-there j =
-    let g = begins j in
-    joined-in-array _ _ _ (accepted g) _ (top (turn (measured (starting g))) .loop .inv .size) _ (j .joined-thread .ensures)
+joined-there j = let g = begins j in joined-in-array _ _ _ (accepted g) _ (sized (starting g)) _ (j .joined-thread .ensures)
 
 -- the thread is in that queue
 abbrev Joined : Type 0
@@ -373,7 +375,7 @@ join-queue-requires : tie.Need-join-queue-requires Inv-loop2 μ-loop2 Inv-loop �
 unfolding at
 join-queue-requires c κs =
     let j = c .before in let g = begins j in let b = starting g in
-    joined-room _ _ _ (accepted g) _ (top (turn (measured b)) .loop .inv .size) _ (j .joined-thread .ensures) (shaped b)
+    joined-room _ _ _ (accepted g) _ (sized b) _ (j .joined-thread .ensures) (shaped b)
 
 loop-again-9 : tie.Need-loop-again-9 Inv-loop2 μ-loop2 Inv-loop μ-loop
 unfolding at put
@@ -382,7 +384,7 @@ loop-again-9 c =
     let a = asked g in let e = asks a in let b = beginning e in let m = measured b in let t = turn m in
     way-begin (top t .loop .inv) (good t) (to m) (passes m) (b .if3 .left)
     (b .before .if2 .left) (e .before .before .if4 .left) (e .if7 .left) _ (a .before .operation-at .ensures) _ (rows a) (g .if9 .left) _ _ _
-    (begin-leaves _ _ _ (accepted g) _ (j .before .before .before .zero-thread .ensures) _ (top t .loop .inv .size) _ _ _
+    (begin-leaves _ _ _ (accepted g) _ (j .before .before .before .zero-thread .ensures) _ (sized b) _ _ _
     (q .join-queue .ensures) (c .begin-own .ensures) (j .joined-thread .ensures))
 
 -- ---- the end
