@@ -19,17 +19,18 @@ Tested = tie.After-is-lawful
 abbrev entry : Tested → tie.Start
 entry r = r .before .before
 
--- it is lawful
+-- it has passed
 abbrev Lawful : Type 0
 Lawful = tie.Else1
 
 abbrev tested : Lawful → Tested
 tested l = l .before
 
+-- so it is lawful
 lawfully : (l : Lawful) → lawful true (front (entry (tested l) .args .bytes .now)) ≡ true
 lawfully l = let r = tested l in sym (r .is-lawful .ensures) ∙ not-false (r .is-lawful .result) (l .if1 .left)
 
--- the number of threads is tested
+-- its number of threads is tested
 abbrev SizeTested : Type 0
 SizeTested = tie.After-size-refusal
 
