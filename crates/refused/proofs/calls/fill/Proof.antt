@@ -280,7 +280,8 @@ module _ {M : Type 1} (𝓤 : URA M) (H : Heap 𝓤) (A : Atoms 𝓤) (W : Given
         (whole l₄ (zs .1 .0) (after k ys) (same-len k ys (zs .1 .0) same ∙ records-is .1 .0 .1)) $ learn ! (λ whole-is.
         -- the result
         assigns ! (of-opd ! (local ! 0 refl)) (from ! (stop !)) (init ! 4 refl (typed (back (zs .1 .0)) whole-is)) $
-        assigns ! (agg ! (and-then ! (local ! 10 refl) (and-then ! (local ! 4 refl) (no-more !)))) (from ! (stop !)) (init ! 19 refl (struct.lawful filled.the-type filled-laws.the-laws 𝓤 H A W .typed (result r (zs .1 .0)) (resultValue v (zs .1 .0) ∷ []) (filled-is r v (back (zs .1 .0)) (recordsValue (back (zs .1 .0))) r-is whole-is) .0)) $
+        assigns ! (agg ! (and-then ! (local ! 10 refl) (and-then ! (local ! 4 refl) (no-more !)))) (from ! (stop !))
+        (init ! 19 refl (struct.lawful filled.the-type filled-laws.the-laws 𝓤 H A W .typed (result r (zs .1 .0)) (resultValue v (zs .1 .0) ∷ []) (filled-is r v (back (zs .1 .0)) (recordsValue (back (zs .1 .0))) r-is whole-is) .0)) $
         returns ! (look ! 19 refl) $ forget ! 0 refl $ forget ! 4 refl $ forget ! 6 refl $ forget ! 8 refl $ forget ! 10 refl $ forget ! 13 refl $ forget ! 15 refl $ forget ! 17 refl $ forget ! 19 refl $
         move ! (19 ∷ 20 ∷ 17 ∷ 18 ∷ 15 ∷ 16 ∷ 13 ∷ 14 ∷ 0 ∷ 12 ∷ 10 ∷ 11 ∷ 8 ∷ 9 ∷ 6 ∷ 7 ∷ 4 ∷ 5 ∷ []) $
         free1 ! $ free1 ! $ free1 ! $ free1 ! $ free1 ! $ free1 ! $ free1 ! $ free1 ! $ free1 ! $ free0 ! $ keep ! [] $ by ! (exits (result r (zs .1 .0)) (resultValue v (zs .1 .0)) (filled-is r v (back (zs .1 .0)) (recordsValue (back (zs .1 .0))) r-is whole-is)))))))))))))))))))
