@@ -6,7 +6,7 @@ use lib.Seq.{length-take-le}
 use lib.ListN.{length}
 use borrow.Author.Tests.{not-true, not-false}
 use borrow.Author.Needs.{needs}
-use Rattle.model.specs.RecordBytes.{lawful}
+use Rattle.model.specs.RecordBytes.{recordLength, lawful}
 use Rattle.model.specs.Decoding.{front}
 use Rattle.writing.specs.Spelled.{isBare}
 use Rattle.writing.proofs.Promised.{record-fits, not-bare, not-lawful, too-long, well-written}
@@ -54,9 +54,13 @@ lawful-tested m = m .before .before
 lawfully : (m : Measured) → let s = spelled (bare-tested (lawful-tested m)) in lawful (entry s .args .first) (front (s .spell .result)) ≡ true
 lawfully m = let l = lawful-tested m in sym (l .is-lawful .ensures) ∙ not-false (l .is-lawful .result) (m .before .if2 .left)
 
+-- the length is that of the record's kind
+long : (m : Measured) → m .record-length .result ≡ recordLength (entry (spelled (bare-tested (lawful-tested m))) .args .item .kind)
+long m = m .record-length .ensures
+
 -- the record is not longer than what is spelled
 within : (m : Measured) → m .record-length .result ≤ length (spelled (bare-tested (lawful-tested m)) .spell .result)
-within m = let s = spelled (bare-tested (lawful-tested m)) in omega (arith, m .record-length .ensures, record-fits _ _ (s .spell .ensures) (whole s))
+within m = let s = spelled (bare-tested (lawful-tested m)) in omega (arith, long m, record-fits _ _ (s .spell .ensures) (whole s))
 
 -- ---- the needs
 -- refused: the record is not bare
@@ -78,7 +82,7 @@ returns-3 : tie.Need-returns-3
 returns-3 c =
     let m = c .before in
     let s = spelled (bare-tested (lawful-tested m)) in
-    too-long _ _ (s .spell .ensures) (whole s) _ _ _ (m .record-length .ensures) (c .if3 .taken)
+    too-long _ _ (s .spell .ensures) (whole s) _ _ _ (long m) (c .if3 .taken)
 
 array-share-prefix-space : tie.Need-array-share-prefix-space
 array-share-prefix-space c = within (c .before)
@@ -97,7 +101,7 @@ returns-4 c =
     let m = fits .before in
     let l = lawful-tested m in
     let s = spelled (bare-tested l) in
-    well-written _ _ (s .spell .ensures) (whole s) _ _ _ (m .record-length .ensures) (bare l) (lawfully m) (fits .if3 .left) _ (copied .copy-front .ensures)
+    well-written _ _ (s .spell .ensures) (whole s) _ _ _ (long m) (bare l) (lawfully m) (fits .if3 .left) _ (copied .copy-front .ensures)
 
 pub write-spec : {M : Type 1} → statement M
 write-spec =
