@@ -19,7 +19,8 @@ returns-2 c =
     let receive = c .before .before .before in
     let send = receive .before in
     let runs = send .before .before in
-    rw (send .send-in-range .ensures, receive .receive-in-range .ensures, c .closed-on .ensures, not-false (runs .before .args .ipc) (runs .if1 .left)) (all-joined _ _)
+    let running = not-false (runs .before .args .ipc) (runs .if1 .left) in
+    rw (send .send-in-range .ensures, receive .receive-in-range .ensures, c .closed-on .ensures, running) (all-joined _ _)
 
 pub operation-fits-spec : {M : Type 1} → statement M
 operation-fits-spec = tie.close (tie.spec returns (λ c κs. search needs) (λ c κs. search needs) (λ c κs. search needs) returns-2)

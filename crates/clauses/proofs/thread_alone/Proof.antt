@@ -10,8 +10,23 @@ returns c =
     let operation = c .before .before in
     let outcome = operation .before in
     let flags = outcome .before in
-    rw (flags .flags-fit .ensures, flags .before .has-receive .ensures, outcome .outcome-fits .ensures, operation .operation-fits .ensures, c .before .phase-fits .ensures, c .queue-fits .ensures)
-    (all-joined _ _)
+    rw (
+      flags .flags-fit .ensures,
+      flags .before .has-receive .ensures,
+      outcome .outcome-fits .ensures,
+      operation .operation-fits .ensures,
+      c .before .phase-fits .ensures,
+      c .queue-fits .ensures,
+    ) (all-joined _ _)
 
 pub thread-alone-spec : {M : Type 1} → statement M
-thread-alone-spec = tie.close (tie.spec (λ c κs. search needs) (λ c κs. search needs) (λ c κs. search needs) (λ c κs. search needs) (λ c κs. search needs) (λ c κs. search needs) returns)
+thread-alone-spec =
+    tie.close
+    (tie.spec
+    (λ c κs. search needs)
+    (λ c κs. search needs)
+    (λ c κs. search needs)
+    (λ c κs. search needs)
+    (λ c κs. search needs)
+    (λ c κs. search needs)
+    returns)
