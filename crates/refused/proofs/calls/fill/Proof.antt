@@ -3,7 +3,7 @@
 --     asks, exits    what the report call asks;  and from nothing to the contract's clause, since all that is owned at the end is plain data
 -- A rule names an entry of the context by its place, counted from 0. A local is two entries: what lies in it, and the right to free it.
 -- Assumes nothing.
-use mathlib.Core.Path.{_≡_, refl, sym, _∙_, ap, subst}
+use mathlib.Core.Path.{_≡_, refl, sym, _∙_, subst}
 use mathlib.Core.List.{List, [], _∷_, _++_, map}
 use Prim.Native.Nat.{ℕ, _≤_, _<_, _^_}
 use native.Mathlib.Omega.{arith}
@@ -40,7 +40,7 @@ use denote.Shadow.{shadow}
 use denote.Array.{Array, each, array-vals, array-tells, array-typed, array-makes}
 use denote.ArrayMemory.{array-apart, array-whole}
 use denote.Ref.{RefT}
-use denote.Slice.{sliceTy, sliceVal, MutSlice, Room, finally}
+use denote.Slice.{sliceTy, sliceVal, MutSlice, Room}
 use denote.Lend.{Held, lends-slice, slice-back}
 use denote.Index.{row, whole-out, whole-in}
 use denote.Steps.{only, nothing, owned, peeks}
