@@ -14,7 +14,9 @@ use Rattle.model.specs.Phases.{isOneOf, phaseOf}
 use Rattle.model.specs.Threads.{newThread, newTable, zeroThread, at}
 use Rattle.model.specs.Queues.{senders}
 use Rattle.model.specs.Locks.{lockHeld}
-use Rattle.model.specs.WellFormed.{within, sizeInRange, inPhase, isCode, nobodyOrBelow, numbersInRange, ipcWithRunning, bareUnlessDone, notWithItself, sendAndMarkWithIpc, pollWithSend, receivingWithPart, ipcWithoutSend, idleWithoutFlags, releaseHasTarget, receiversSendClear, sendersSendSet, copiesToReady, sendsTo, ownerOf, chain, Shaped, Each, WellFormed}
+use Rattle.model.specs.WellFormed.{within, inPhase, isCode, nobodyOrBelow, sendsTo, ownerOf, chain, Shaped, Each, WellFormed}
+use Rattle.model.specs.WellFormed.{sizeInRange, numbersInRange, ipcWithRunning, bareUnlessDone, notWithItself, sendAndMarkWithIpc, pollWithSend}
+use Rattle.model.specs.WellFormed.{receivingWithPart, ipcWithoutSend, idleWithoutFlags, releaseHasTarget, receiversSendClear, sendersSendSet, copiesToReady}
 use Rattle.model.specs.Refusals.{unless, makeRefusal}
 use Rattle.model.specs.Promise.{madeTable}
 use Rattle.model.proofs.Laws.{by}

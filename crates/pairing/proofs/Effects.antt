@@ -12,7 +12,9 @@ use Rattle.model.specs.declared.Operation.{Operation}
 use Rattle.model.specs.Lists.{update}
 use Rattle.model.specs.Codes.{running, sameCode, done, codeOnly}
 use Rattle.model.specs.Operations.{hasReceive, accepts, message}
-use Rattle.model.specs.Atomic.{Run, nothing, sending, receiving, AtomicThread, Machine, begins, cancels, ticks, rendezvous, aborts, runs, ending, turning, beginning, cancelling, ticking, receiverAfter, senderAfter, play, isReceiving, acceptsIn, CanAbort, cancelledSending, lateSending, cancelledReceiving, lateReceiving, Can}
+use Rattle.model.specs.Atomic.{Run, nothing, sending, receiving, AtomicThread, Machine, begins, cancels, ticks, rendezvous, aborts, runs}
+use Rattle.model.specs.Atomic.{ending, turning, beginning, cancelling, ticking, receiverAfter, senderAfter, play}
+use Rattle.model.specs.Atomic.{isReceiving, acceptsIn, CanAbort, cancelledSending, lateSending, cancelledReceiving, lateReceiving, Can}
 use Rattle.model.specs.Linearization.{Entry, playEntry, Allowed, beginsBy}
 use Rattle.model.proofs.Laws.{by, same?}
 use Rattle.laws.proofs.Ready.{ready-for-read}

@@ -7,22 +7,20 @@ use Rattle.formed.specs.Groups.{operationFits}
 use Rattle.clauses.proofs.operation_fits.Statement.{statement}
 use Rattle.clauses.proofs.operation_fits.Tie as tie
 
+-- no operation runs
 returns : tie.Need-returns
 unfolding operationFits implies
 returns c = rw (not-true (c .before .args .ipc) (c .if1 .taken)) (all-joined _ _)
 
-send-in-range-requires : tie.Need-send-in-range-requires
-send-in-range-requires c κs = search needs
-
-receive-in-range-requires : tie.Need-receive-in-range-requires
-receive-in-range-requires c κs = search needs
-
-closed-on-requires : tie.Need-closed-on-requires
-closed-on-requires c κs = search needs
-
+-- one runs
 returns-2 : tie.Need-returns-2
 unfolding operationFits implies isLeft tickCount
-returns-2 c = rw (c .before .before .before .before .send-in-range .ensures, c .before .before .before .receive-in-range .ensures, c .closed-on .ensures, not-false (c .before .before .before .before .before .before .before .args .ipc) (c .before .before .before .before .before .before .if1 .left)) (all-joined _ _)
+returns-2 c =
+    let receive = c .before .before .before in
+    let send = receive .before in
+    let runs = send .before .before in
+    let running = not-false (runs .before .args .ipc) (runs .if1 .left) in
+    rw (send .send-in-range .ensures, receive .receive-in-range .ensures, c .closed-on .ensures, running) (all-joined _ _)
 
 pub operation-fits-spec : {M : Type 1} → statement M
-operation-fits-spec = tie.close (tie.spec returns send-in-range-requires receive-in-range-requires closed-on-requires returns-2)
+operation-fits-spec = tie.close (tie.spec returns (λ c κs. search needs) (λ c κs. search needs) (λ c κs. search needs) returns-2)

@@ -1,186 +1,191 @@
+use mathlib.Core.Path.{_≡_, sym, _∙_}
+use Prim.Native.Nat.{_<_}
 use native.Mathlib.Omega.{arith}
-use mathlib.Core.Path.{sym, _∙_}
-use Rattle.model.specs.Threads.{at, put}
 use borrow.Author.Needs.{needs}
+use Rattle.model.specs.Codes.{nobody}
+use Rattle.model.specs.Step.{other}
+use Rattle.model.specs.Threads.{at, put}
+use Rattle.model.specs.WellFormed.{Shaped}
 use Rattle.core.proofs.Stepped.{slice-eight, in-array, queue-fits, held-stays, other-in-array, slice-ends, fits-here, ending-waits, stepped-on, stepped-to-end}
 use Rattle.core.proofs.Performed.{accepted-shaped}
 use Rattle.core.proofs.step.Statement.{statement}
 use Rattle.core.proofs.step.Tie as tie
 
-mul-own : tie.Need-mul-own
-mul-own c = search needs
+-- ---- the places of the code from which the needs below speak; each leads back to the one before
+-- at the entry the table's arrays are whole
+shaped : (s : tie.Start) → Shaped (s .args .t1)
+shaped s = accepted-shaped _ _ (s .pre) _ (s .good .0)
 
-element-copy-out-own : tie.Need-element-copy-out-own
+-- and thread x has a place in the array
+own-there : (s : tie.Start) → s .args .x < 32
+own-there s = in-array (s .args .x) _ (s .pre) (shaped s)
+
+-- thread x is read
+abbrev Read : Type 0
+Read = tie.After-struct-known
+
+abbrev entry : Read → tie.Start
+entry r = r .before .before .before
+
+-- both threads of the step are known: x, and the one that is read as the other
+abbrev Both : Type 0
+Both = tie.After-other-or-own
+
+abbrev read : Both → Read
+read b = b .before .before .before
+
+-- thread x's lock is free
+free : (b : Both) → at (entry (read b) .args .t1) (entry (read b) .args .x) .owner ≡ nobody
 unfolding at
-element-copy-out-own c =
-    let asked = c .before .pre in
-    in-array (c .before .args .x) _ asked (accepted-shaped _ _ asked _ (c .before .good .0))
+free b = b .before .before .if1 .left
 
+-- the other thread's number is that of the definition
+finds : (b : Both) → b .before .other-number .result ≡ other (at (entry (read b) .args .t1) (entry (read b) .args .x))
+unfolding at
+finds b = b .before .other-number .ensures
+
+-- the thread that is read as the other one has a place in the array
+other-there : (b : Both) → b .other-or-own .result < 32
+other-there b = let s = entry (read b) in other-in-array (s .args .x) _ (s .pre) (shaped s) _ _ (finds b) (b .other-or-own .ensures)
+
+-- the two threads have stepped
+abbrev Stepped : Type 0
+Stepped = tie.After-step-threads
+
+abbrev both : Stepped → Both
+both d = d .before .before .before
+
+-- thread x still has a place in the array
+own-still-there : (d : Stepped) → entry (read (both d)) .args .x < 32
+own-still-there d = own-there (entry (read (both d)))
+
+-- the step ends a part of an operation
+abbrev Ends : Type 0
+Ends = tie.Then2
+
+abbrev ends-stepped : Ends → Stepped
+ends-stepped e = e .before .before .before .before
+
+-- the step ends nothing
+abbrev GoesOn : Type 0
+GoesOn = tie.Else2
+
+abbrev goes-stepped : GoesOn → Stepped
+goes-stepped g = g .before .before .before .before
+
+-- ---- the needs
+element-copy-out-own : tie.Need-element-copy-out-own
+element-copy-out-own c = own-there (c .before)
+
+-- the lock is owned: thread x is held
 returns : tie.Need-returns
 unfolding at
-returns c =
-    let asked = c .before .before .before .before .pre in
-    held-stays (c .before .before .before .before .args .x) _ asked (accepted-shaped _ _ asked _ (c .before .before .before .before .good .0)) (c .if1 .taken)
+returns c = let s = entry (c .before) in held-stays (s .args .x) _ (s .pre) (shaped s) (c .if1 .taken)
 
 other-number-requires : tie.Need-other-number-requires
 unfolding at
-other-number-requires c κs =
-    let asked = c .before .before .before .before .pre in
-    queue-fits (c .before .before .before .before .args .x) _ asked (accepted-shaped _ _ asked _ (c .before .before .before .before .good .0))
-
-other-or-own-requires : tie.Need-other-or-own-requires
-other-or-own-requires c κs = search needs
-
-cast-j : tie.Need-cast-j
-cast-j c = search needs
-
-mul-other : tie.Need-mul-other
-mul-other c = search needs
+other-number-requires c κs = let s = entry (c .before) in queue-fits (s .args .x) _ (s .pre) (shaped s)
 
 element-copy-out-other : tie.Need-element-copy-out-other
-unfolding at
-element-copy-out-other c =
-    let asked = c .before .before .before .before .before .before .pre in
-    other-in-array (c .before .before .before .before .before .before .args .x) _ asked (accepted-shaped _ _ asked _ (c .before .before .before .before .before .before .good .0)) _ _ (c .before .other-number .ensures) (c .other-or-own .ensures)
-
-mul-start : tie.Need-mul-start
-mul-start c = search needs
-
-add-end : tie.Need-add-end
-add-end c = search needs
-
-mul-step-threads : tie.Need-mul-step-threads
-mul-step-threads c = search needs
-
-sub-step-threads : tie.Need-sub-step-threads
-sub-step-threads c = search needs
-
-part-step-threads-start : tie.Need-part-step-threads-start
-part-step-threads-start c = search needs
+element-copy-out-other b = other-there b
 
 part-step-threads-end : tie.Need-part-step-threads-end
-unfolding at
 part-step-threads-end c =
-    let asked = c .before .before .before .before .before .before .before .pre in
-    slice-ends (c .before .before .before .before .before .before .before .args .x) _ asked (accepted-shaped _ _ asked _ (c .before .before .before .before .before .before .before .good .0)) _ _ (c .before .before .other-number .ensures) (c .before .other-or-own .ensures)
+    let b = c .before in
+    let s = entry (read b) in
+    slice-ends (s .args .x) _ (s .pre) (shaped s) _ _ (finds b) (b .other-or-own .ensures)
 
 step-threads-requires : tie.Need-step-threads-requires
 unfolding at
 step-threads-requires c κs =
-    let other-number-tells = c .before .before .before .other-number .ensures in
-    let other-or-own-tells = c .before .before .other-or-own .ensures in
-    let a = c .before .before .before .before .before .before .before .before .args in
-    let typed = c .before .before .before .before .before .before .before .before .good in
-    let asked = c .before .before .before .before .before .before .before .before .pre in
-    (fits-here (a .x) _ asked (accepted-shaped _ _ asked _ (typed .0)) _ _ other-number-tells other-or-own-tells, slice-eight (a .x) _ asked (accepted-shaped _ _ asked _ (typed .0)) _ _ other-number-tells other-or-own-tells)
-
-is-ending-requires : tie.Need-is-ending-requires
-is-ending-requires c κs = search needs
+    let b = c .before .before in
+    let s = entry (read b) in (
+      fits-here (s .args .x) _ (s .pre) (shaped s) _ _ (finds b) (b .other-or-own .ensures),
+      slice-eight (s .args .x) _ (s .pre) (shaped s) _ _ (finds b) (b .other-or-own .ensures),
+    )
 
 end-threads-requires : tie.Need-end-threads-requires
 unfolding at
 end-threads-requires c κs =
-    let asked = c .before .before .before .before .before .before .before .before .before .before .before .before .before .pre in
-    ending-waits (c .before .before .before .before .before .before .before .before .before .before .before .before .before .args .x) _ asked (accepted-shaped _ _ asked _ (c .before .before .before .before .before .before .before .before .before .before .before .before .before .good .0)) _ _ (c .before .before .before .before .before .before .before .before .other-number .ensures) (c .before .before .before .before .before .before .before .other-or-own .ensures) (c .before .before .before .before .before .before .before .before .before .if1 .left) (c .before .before .before .before .step-threads .result) (c .before .before .before .before .step-threads .ensures .0)
-
-mul-theirs : tie.Need-mul-theirs
-mul-theirs c = search needs
+    let d = ends-stepped c in
+    let b = both d in
+    let s = entry (read b) in
+    ending-waits (s .args .x) _ (s .pre) (shaped s) _ _ (finds b) (b .other-or-own .ensures) (free b) (d .step-threads .result) (d .step-threads .ensures .0)
 
 element-set-from-theirs : tie.Need-element-set-from-theirs
-unfolding at
-element-set-from-theirs c =
-    let asked = c .before .before .before .before .before .before .before .before .before .before .before .before .before .before .before .before .pre in
-    other-in-array (c .before .before .before .before .before .before .before .before .before .before .before .before .before .before .before .before .args .x) _ asked (accepted-shaped _ _ asked _ (c .before .before .before .before .before .before .before .before .before .before .before .before .before .before .before .before .good .0)) _ _ (c .before .before .before .before .before .before .before .before .before .before .before .other-number .ensures) (c .before .before .before .before .before .before .before .before .before .before .other-or-own .ensures)
+element-set-from-theirs c = other-there (both (ends-stepped (c .before .before .before)))
 
 mul-mine : tie.Need-mul-mine
-mul-mine c =
-    let asked = c .before .before .before .before .before .before .before .before .before .before .before .before .before .before .before .before .pre in
-    omega (arith, in-array (c .before .before .before .before .before .before .before .before .before .before .before .before .before .before .before .before .args .x) _ asked (accepted-shaped _ _ asked _ (c .before .before .before .before .before .before .before .before .before .before .before .before .before .before .before .before .good .0)))
+mul-mine c = omega (arith, own-still-there (ends-stepped (c .before .before .before)))
 
 element-set-from-mine : tie.Need-element-set-from-mine
-unfolding at
-element-set-from-mine c =
-    let asked = c .before .before .before .before .before .before .before .before .before .before .before .before .before .before .before .before .pre in
-    in-array (c .before .before .before .before .before .before .before .before .before .before .before .before .before .before .before .before .args .x) _ asked (accepted-shaped _ _ asked _ (c .before .before .before .before .before .before .before .before .before .before .before .before .before .before .before .before .good .0))
+element-set-from-mine c = own-still-there (ends-stepped (c .before .before .before))
 
-same-length : tie.Need-same-length
-same-length c = search needs
-
+-- the two threads as the ending leaves them are put back
 returns-2 : tie.Need-returns-2
 unfolding at put
 returns-2 c =
-    let step-threads-tells = c .before .before .before .before .before .before .before .step-threads .ensures in
-    let asked = c .before .before .before .before .before .before .before .before .before .before .before .before .before .before .before .before .pre in
-    stepped-to-end (c .before .before .before .before .before .before .before .before .before .before .before .before .before .before .before .before .args .x) _ asked (accepted-shaped _ _ asked _ (c .before .before .before .before .before .before .before .before .before .before .before .before .before .before .before .before .good .0)) _ _ (c .before .before .before .before .before .before .before .before .before .before .before .other-number .ensures) (c .before .before .before .before .before .before .before .before .before .before .other-or-own .ensures) (c .before .before .before .before .before .before .before .before .before .before .before .before .if1 .left) (c .before .before .before .before .before .before .before .step-threads .result) (step-threads-tells .0) _ (step-threads-tells .1) _ _ (sym (c .before .before .before .if2 .taken) ∙ c .before .before .before .before .is-ending .ensures) (c .before .before .end-threads .ensures)
-
-change-other-requires : tie.Need-change-other-requires
-change-other-requires c κs = search needs
-
-mul-next : tie.Need-mul-next
-mul-next c = search needs
+    let e = c .before .before .before in
+    let d = ends-stepped e in
+    let b = both d in
+    let s = entry (read b) in
+    stepped-to-end (s .args .x) _ (s .pre) (shaped s) _ _ (finds b) (b .other-or-own .ensures) (free b)
+    (d .step-threads .result) (d .step-threads .ensures .0) _ (d .step-threads .ensures .1) _ _
+    (sym (e .if2 .taken) ∙ e .before .is-ending .ensures) (c .before .before .end-threads .ensures)
 
 element-set-from-next : tie.Need-element-set-from-next
-unfolding at
-element-set-from-next c =
-    let asked = c .before .before .before .before .before .before .before .before .before .before .before .before .before .before .pre in
-    other-in-array (c .before .before .before .before .before .before .before .before .before .before .before .before .before .before .args .x) _ asked (accepted-shaped _ _ asked _ (c .before .before .before .before .before .before .before .before .before .before .before .before .before .before .good .0)) _ _ (c .before .before .before .before .before .before .before .before .before .other-number .ensures) (c .before .before .before .before .before .before .before .before .other-or-own .ensures)
-
-change-own-requires : tie.Need-change-own-requires
-change-own-requires c κs = search needs
+element-set-from-next c = other-there (both (goes-stepped (c .before)))
 
 mul-t30 : tie.Need-mul-t30
-mul-t30 c =
-    let asked = c .before .before .before .before .before .before .before .before .before .before .before .before .before .before .before .pre in
-    omega (arith, in-array (c .before .before .before .before .before .before .before .before .before .before .before .before .before .before .before .args .x) _ asked (accepted-shaped _ _ asked _ (c .before .before .before .before .before .before .before .before .before .before .before .before .before .before .before .good .0)))
+mul-t30 c = omega (arith, own-still-there (goes-stepped (c .before .before)))
 
 element-set-from-next-2 : tie.Need-element-set-from-next-2
-unfolding at
-element-set-from-next-2 c =
-    let asked = c .before .before .before .before .before .before .before .before .before .before .before .before .before .before .before .pre in
-    in-array (c .before .before .before .before .before .before .before .before .before .before .before .before .before .before .before .args .x) _ asked (accepted-shaped _ _ asked _ (c .before .before .before .before .before .before .before .before .before .before .before .before .before .before .before .good .0))
+element-set-from-next-2 c = own-still-there (goes-stepped (c .before .before))
 
-same-length-2 : tie.Need-same-length-2
-same-length-2 c = search needs
-
+-- the two threads with the fields that are set are put back
 returns-3 : tie.Need-returns-3
 unfolding at put
 returns-3 c =
-    let step-threads-tells = c .before .before .before .before .before .before .step-threads .ensures in
-    let asked = c .before .before .before .before .before .before .before .before .before .before .before .before .before .before .before .pre in
-    stepped-on (c .before .before .before .before .before .before .before .before .before .before .before .before .before .before .before .args .x) _ asked (accepted-shaped _ _ asked _ (c .before .before .before .before .before .before .before .before .before .before .before .before .before .before .before .good .0)) _ _ (c .before .before .before .before .before .before .before .before .before .before .other-number .ensures) (c .before .before .before .before .before .before .before .before .before .other-or-own .ensures) (c .before .before .before .before .before .before .before .before .before .before .before .if1 .left) (c .before .before .before .before .before .before .step-threads .result) (step-threads-tells .0) _ (step-threads-tells .1) _ _ (sym (c .before .before .if2 .left) ∙ c .before .before .before .is-ending .ensures) (c .change-own .ensures) (c .before .change-other .ensures)
+    let g = c .before .before in
+    let d = goes-stepped g in
+    let b = both d in
+    let s = entry (read b) in
+    stepped-on (s .args .x) _ (s .pre) (shaped s) _ _ (finds b) (b .other-or-own .ensures) (free b)
+    (d .step-threads .result) (d .step-threads .ensures .0) _ (d .step-threads .ensures .1) _ _
+    (sym (g .if2 .left) ∙ g .before .is-ending .ensures) (c .change-own .ensures) (c .before .change-other .ensures)
 
 pub step-spec : {M : Type 1} → statement M
 step-spec =
     tie.close
     (tie.spec
-    mul-own
+    (λ c. search needs)
     element-copy-out-own
     returns
     other-number-requires
-    other-or-own-requires
-    cast-j
-    mul-other
+    (λ c κs. search needs)
+    (λ c. search needs)
+    (λ c. search needs)
     element-copy-out-other
-    mul-start
-    add-end
-    mul-step-threads
-    sub-step-threads
-    part-step-threads-start
+    (λ c. search needs)
+    (λ c. search needs)
+    (λ c. search needs)
+    (λ c. search needs)
+    (λ c. search needs)
     part-step-threads-end
     step-threads-requires
-    is-ending-requires
+    (λ c κs. search needs)
     end-threads-requires
-    mul-theirs
+    (λ c. search needs)
     element-set-from-theirs
     mul-mine
     element-set-from-mine
-    same-length
+    (λ c. search needs)
     returns-2
-    change-other-requires
-    mul-next
+    (λ c κs. search needs)
+    (λ c. search needs)
     element-set-from-next
-    change-own-requires
+    (λ c κs. search needs)
     mul-t30
     element-set-from-next-2
-    same-length-2
+    (λ c. search needs)
     returns-3)

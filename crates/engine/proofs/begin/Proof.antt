@@ -1,9 +1,14 @@
-use mathlib.Core.Path.{refl, sym, _∙_}
+use mathlib.Core.Logic.{_≢_}
+use mathlib.Core.Path.{_≡_, refl, sym, _∙_}
+use Prim.Native.Nat.{ℕ}
 use native.Mathlib.Omega.{arith}
+use lib.ListN.{length}
 use denote.Ref.{now}
 use borrow.Author.Needs.{needs}
-use Rattle.model.specs.Calls.{begin}
-use Rattle.model.specs.Promise.{state}
+use Rattle.model.specs.declared.Answer.the-variants.{Refused}
+use Rattle.model.specs.Calls.{Call, State, begin}
+use Rattle.model.specs.Promise.{state, Promise}
+use Rattle.model.specs.Refusals.{firstRefusal, argumentRows, beginRows, laterRows}
 use Rattle.model.specs.Threads.{at}
 use Rattle.laws.proofs.Groups.{table-formed, table-few, place-below, place-store, place-before-begin, begin-after-place}
 use Rattle.core.proofs.Kept.{begin-number}
@@ -11,74 +16,107 @@ use Rattle.engine.proofs.Refused.{refused-as, table-refuses, later-refu
 use Rattle.engine.proofs.begin.Statement.{statement}
 use Rattle.engine.proofs.begin.Tie as tie
 
-table-refusal-requires : tie.Need-table-refusal-requires
-table-refusal-requires c κs = search needs
+-- ---- the places of the code from which the needs below speak; each leads back to the one before
+-- at the entry: the call, and the state that it finds
+abbrev call : tie.Start → Call
+call s = begin (s .args .thread) (s .args .op)
 
-refuse-requires : tie.Need-refuse-requires
-refuse-requires c κs = search needs
+abbrev found : tie.Start → State
+found s = state (s .args .t1) (now (s .args .store))
 
+-- the rows on the table are tested
+abbrev TableTested : Type 0
+TableTested = tie.After-table-refusal
+
+abbrev entry : TableTested → tie.Start
+entry t = t .before .before
+
+-- none of them holds, and the rows on the thread's number and the store's length are tested
+abbrev PlaceTested : Type 0
+PlaceTested = tie.After-argument-refusal
+
+abbrev table-tested : PlaceTested → TableTested
+table-tested p = p .before .before
+
+-- what they say
+place-rows : (p : PlaceTested) → let s = entry (table-tested p) in
+    p .argument-refusal .result ≡ firstRefusal (argumentRows (s .args .t1) (s .args .thread) (length (now (s .args .store))))
+place-rows p = p .argument-refusal .ensures _ refl
+
+-- the first row that holds after those on the table refuses the call
+later : (p : PlaceTested) → let s = entry (table-tested p) in
+    (g : ℕ) → g ≡ firstRefusal (laterRows (call s) (found s)) → g ≢ 0 → Promise (call s) (found s) (Refused g) (found s)
+later p = let t = table-tested p in later-refuses (call (entry t)) (found (entry t)) _ (t .table-refusal .ensures) (p .before .if1 .left)
+
+-- no row on the number or the length holds, and the rows on the thread and its operation are tested
+abbrev BeginTested : Type 0
+BeginTested = tie.After-begin-refusal
+
+abbrev place-tested : BeginTested → PlaceTested
+place-tested b = b .before .before .before
+
+-- what they say
+begin-rows : (b : BeginTested) → let s = entry (table-tested (place-tested b)) in
+    b .begin-refusal .result ≡ firstRefusal (beginRows (s .args .t1) (s .args .thread) (s .args .op))
+unfolding at
+begin-rows b = b .begin-refusal .ensures _ refl refl
+
+-- ---- the needs
+-- a row on the table refuses
 returns : tie.Need-returns
 returns c =
-    let a = c .before .before .before .before .args in
-    refused-as _ (c .refuse .ensures) (table-refuses (begin (a .thread) (a .op)) _ _ (c .before .before .table-refusal .ensures) (c .before .if1 .taken))
+    let t = c .before .before in
+    refused-as _ (c .refuse .ensures) (table-refuses (call (entry t)) _ _ (t .table-refusal .ensures) (c .before .if1 .taken))
 
-argument-refusal-requires : tie.Need-argument-refusal-requires
-argument-refusal-requires c κs = search needs
-
-refuse-requires-2 : tie.Need-refuse-requires-2
-refuse-requires-2 c κs = search needs
-
+-- a row on the number or the length refuses
 returns-2 : tie.Need-returns-2
 returns-2 c =
-    let a = c .before .before .before .before .before .before .args in
-    let test2 = c .before .if2 .taken in
-    refused-as _ (c .refuse2 .ensures) (later-refuses (begin (a .thread) (a .op)) _ _ (c .before .before .before .before .table-refusal .ensures) (c .before .before .before .if1 .left) _ (place-before-begin (a .thread) (a .op) (state (a .t1) (now (a .store))) _ (c .before .before .argument-refusal .ensures (a .t1) refl) test2) test2)
-
-mul-own : tie.Need-mul-own
-mul-own c = search needs
+    let p = c .before .before in
+    let s = entry (table-tested p) in
+    let holds = c .before .if2 .taken in
+    refused-as _ (c .refuse2 .ensures) (later p _ (place-before-begin (s .args .thread) (s .args .op) (found s) _ (place-rows p) holds) holds)
 
 element-copy-out-own : tie.Need-element-copy-out-own
 element-copy-out-own c =
-    let a = c .before .before .before .before .before .args in
-    omega (arith, table-few (a .t1) _ (c .before .before .before .table-refusal .ensures) (c .before .before .if1 .left), place-below (a .t1) _ _ _ (c .before .argument-refusal .ensures (a .t1) refl) (c .if2 .left))
+    let p = c .before in
+    let t = entry (table-tested p) .args .t1 in
+    omega (arith, table-few t _ (table-tested p .table-refusal .ensures) (p .before .if1 .left), place-below t _ _ _ (place-rows p) (c .if2 .left))
 
-begin-refusal-requires : tie.Need-begin-refusal-requires
-begin-refusal-requires c κs = search needs
-
-refuse-requires-3 : tie.Need-refuse-requires-3
-refuse-requires-3 c κs = search needs
-
+-- a row on the thread or its operation refuses
 returns-3 : tie.Need-returns-3
-unfolding at
 returns-3 c =
-    let a = c .before .before .before .before .before .before .before .before .before .args in
-    refused-as _ (c .refuse3 .ensures) (later-refuses (begin (a .thread) (a .op)) _ _ (c .before .before .before .before .before .before .before .table-refusal .ensures) (c .before .before .before .before .before .before .if1 .left) _ (begin-after-place (a .thread) (a .op) (state (a .t1) (now (a .store))) _ _ (c .before .before .before .before .before .argument-refusal .ensures (a .t1) refl) (c .before .before .before .before .if2 .left) (c .before .before .begin-refusal .ensures (a .t1) refl refl)) (c .before .if3 .taken))
+    let b = c .before .before in
+    let p = place-tested b in
+    let s = entry (table-tested p) in
+    refused-as _ (c .refuse3 .ensures)
+    (later p _ (begin-after-place (s .args .thread) (s .args .op) (found s) _ _ (place-rows p) (b .before .before .if2 .left) (begin-rows b)) (c .before .if3 .taken))
 
 begin-requires : tie.Need-begin-requires
-unfolding at
-begin-requires c κs = let place = c .before .before .before .before .before .argument-refusal .ensures (c .before .before .before .before .before .before .before .before .before .args .t1) refl in begin-number _ (table-formed (c .before .before .before .before .before .before .before .before .before .args .t1) _ (c .before .before .before .before .before .before .before .table-refusal .ensures) (c .before .before .before .before .before .before .if1 .left)) (c .before .before .before .before .before .before .before .before .before .args .thread) (place-below (c .before .before .before .before .before .before .before .before .before .args .t1) _ _ _ place (c .before .before .before .before .if2 .left)) (place-store (c .before .before .before .before .before .before .before .before .before .args .t1) _ _ _ place (c .before .before .before .before .if2 .left)) (c .before .before .before .before .before .before .before .before .before .args .op) ∙ sym (c .before .before .begin-refusal .ensures (c .before .before .before .before .before .before .before .before .before .args .t1) refl refl) ∙ c .before .if3 .left
-
-same-length : tie.Need-same-length
-same-length c = search needs
-
-returns-4 : tie.Need-returns-4
-returns-4 c = search needs
+begin-requires c κs =
+    let b = c .before .before in
+    let p = place-tested b in
+    let s = entry (table-tested p) in
+    let t = s .args .t1 in
+    let none = b .before .before .if2 .left in
+    begin-number (found s) (table-formed t _ (table-tested p .table-refusal .ensures) (p .before .if1 .left)) (s .args .thread)
+    (place-below t _ _ _ (place-rows p) none) (place-store t _ _ _ (place-rows p) none) (s .args .op)
+    ∙ sym (begin-rows b) ∙ c .before .if3 .left
 
 pub begin-spec : {M : Type 1} → statement M
 begin-spec =
     tie.close
     (tie.spec
-    table-refusal-requires
-    refuse-requires
+    (λ c κs. search needs)
+    (λ c κs. search needs)
     returns
-    argument-refusal-requires
-    refuse-requires-2
+    (λ c κs. search needs)
+    (λ c κs. search needs)
     returns-2
-    mul-own
+    (λ c. search needs)
     element-copy-out-own
-    begin-refusal-requires
-    refuse-requires-3
+    (λ c κs. search needs)
+    (λ c κs. search needs)
     returns-3
     begin-requires
-    same-length
-    returns-4)
+    (λ c. search needs)
+    (λ c. search needs))

@@ -8,35 +8,35 @@ use Rattle.engine.proofs.Refused.{make-refused, make-accepted}
 use Rattle.engine.proofs.make.Statement.{statement}
 use Rattle.engine.proofs.make.Tie as tie
 
-size-refusal-requires : tie.Need-size-refusal-requires
-size-refusal-requires c κs = search needs
+-- ---- the place of the code from which the needs below speak
+-- the size is tested
+abbrev SizeTested : Type 0
+SizeTested = tie.After-size-refusal
 
-new-table-requires : tie.Need-new-table-requires
-new-table-requires c κs = search needs
-
-refuse-requires : tie.Need-refuse-requires
-refuse-requires c κs = search needs
-
+-- ---- the needs
+-- no table of that size
 returns : tie.Need-returns
 returns c =
-    let a = c .before .before .before .before .args in
-    subst (λ (r : Returned). MakePromise (a .n) (r .answer) (r .table)) (sym (c .refuse .ensures ∙ ap {B = Returned} (λ (t : Table). record { answer = Refused (c .before .before .before .size-refusal .result); table = t }) (c .before .new-table .ensures))) (make-refused (a .n) _ (c .before .before .before .size-refusal .ensures) (c .before .before .if1 .taken))
+    let z : SizeTested = c .before .before .before in
+    let n = z .before .args .n in
+    let refused : Table → Returned = λ t. record { answer = Refused (z .size-refusal .result); table = t } in
+    subst (λ (r : Returned). MakePromise n (r .answer) (r .table)) (sym (c .refuse .ensures ∙ ap refused (c .before .new-table .ensures)))
+    (make-refused n _ (z .size-refusal .ensures) (c .before .before .if1 .taken))
 
-new-table-requires-2 : tie.Need-new-table-requires-2
-new-table-requires-2 c κs = search needs
-
+-- one is made
 returns-2 : tie.Need-returns-2
 returns-2 c =
-    let a = c .before .before .before .args in
-    subst (λ (t : Table). MakePromise (a .n) Accepted t) (sym (c .new-table2 .ensures)) (make-accepted (a .n) _ (c .before .before .size-refusal .ensures) (c .before .if1 .left))
+    let z : SizeTested = c .before .before in
+    let n = z .before .args .n in
+    subst (λ (t : Table). MakePromise n Accepted t) (sym (c .new-table2 .ensures)) (make-accepted n _ (z .size-refusal .ensures) (c .before .if1 .left))
 
 pub make-spec : {M : Type 1} → statement M
 make-spec =
     tie.close
     (tie.spec
-    size-refusal-requires
-    new-table-requires
-    refuse-requires
+    (λ c κs. search needs)
+    (λ c κs. search needs)
+    (λ c κs. search needs)
     returns
-    new-table-requires-2
+    (λ c κs. search needs)
     returns-2)

@@ -1,82 +1,135 @@
 use mathlib.Core.Bool.{Bool, not, _&&_, _||_}
 use mathlib.Core.List.{[], _∷_}
-use mathlib.Core.Path.{refl, sym, ap, _∙_}
+use mathlib.Core.Path.{_≡_, refl, sym, ap, _∙_}
 use Prim.Native.Nat.{ℕ}
 use lib.Dec.{eqb}
 use borrow.Author.Needs.{needs}
-use Rattle.model.specs.Refusals.{neitherPart, withItself, noPartner, tooManyWords, badTime}
+use Rattle.model.specs.declared.Table.{Table}
+use Rattle.model.specs.Refusals.{firstRefusal, neitherPart, withItself, noPartner, tooManyWords, badTime}
 use Rattle.model.specs.Operations.{closedBeyond}
 use Rattle.refusals.proofs.Laws.{first-joined, row-as, time-row}
 use Rattle.refusals.specs.Rows.{operationRows}
 use Rattle.refusals.proofs.operation_refusal.Statement.{statement}
 use Rattle.refusals.proofs.operation_refusal.Tie as tie
 
-has-receive-requires : tie.Need-has-receive-requires
-has-receive-requires c κs = search needs
+-- ---- the places of the code, one for each row; each leads back to the one before, and to where the operation is read
+-- the operation's receive part is read
+abbrev Read : Type 0
+Read = tie.After-receive-time
 
-receive-time-requires : tie.Need-receive-time-requires
-receive-time-requires c κs = search needs
+abbrev entry : Read → tie.Start
+entry r = r .before .before .before
 
-row-requires : tie.Need-row-requires
-row-requires c κs = search needs
+-- the row on an operation with neither part is tested
+abbrev Neither : Type 0
+Neither = tie.After-row
 
-closed-on-requires : tie.Need-closed-on-requires
-closed-on-requires c κs = search needs
+abbrev neither-read : Neither → Read
+neither-read w = w .before .before
 
-row-requires-2 : tie.Need-row-requires-2
-row-requires-2 c κs = search needs
+-- what it says
+neither : (w : Neither) → w .row .result ≡ firstRefusal (neitherPart (entry (neither-read w) .args .op) ∷ [])
+unfolding neitherPart
+neither w =
+    let r = neither-read w in
+    w .row .ensures ∙ row-as 6 _ _ (ap (λ (b : Bool). not (entry r .args .op .send .present || b)) (r .before .has-receive .ensures))
 
-closed-beyond-requires : tie.Need-closed-beyond-requires
-closed-beyond-requires c κs = search needs
+-- the row on an operation with the thread itself is tested
+abbrev Itself : Type 0
+Itself = tie.After-row2
 
-row-requires-3 : tie.Need-row-requires-3
-row-requires-3 c κs = search needs
+abbrev to-neither : Itself → Neither
+to-neither w = w .before .before .before .before
 
-row-requires-4 : tie.Need-row-requires-4
-row-requires-4 c κs = search needs
+abbrev itself-read : Itself → Read
+itself-read w = neither-read (to-neither w)
 
-row-requires-5 : tie.Need-row-requires-5
-row-requires-5 c κs = search needs
+-- what it says
+itself : (w : Itself) → let a = entry (itself-read w) .args in w .row2 .result ≡ firstRefusal (withItself (a .x) (a .op) ∷ [])
+unfolding withItself
+itself w =
+    let a = entry (itself-read w) .args in
+    w .row2 .ensures ∙ row-as 7 _ _ (ap (λ (b : Bool). a .op .send .present && eqb (a .op .send .target) (a .x) || b) (w .before .closed-on .ensures))
 
-first-requires : tie.Need-first-requires
-first-requires c κs = search needs
+-- the row on a closed partner beyond the table is tested
+abbrev Partner : Type 0
+Partner = tie.After-row3
 
-first-requires-2 : tie.Need-first-requires-2
-first-requires-2 c κs = search needs
+abbrev to-itself : Partner → Itself
+to-itself w = w .before .before
 
-first-requires-3 : tie.Need-first-requires-3
-first-requires-3 c κs = search needs
+abbrev partner-read : Partner → Read
+partner-read w = itself-read (to-itself w)
 
-first-requires-4 : tie.Need-first-requires-4
-first-requires-4 c κs = search needs
+-- what it says for a table of n threads
+partner : (w : Partner) → let a = entry (partner-read w) .args in (t : Table) → t .n ≡ a .n → w .row3 .result ≡ firstRefusal (noPartner t (a .op) ∷ [])
+unfolding noPartner
+partner w t e =
+    let a = entry (partner-read w) .args in
+    w .row3 .ensures ∙ row-as 8 _ _ (w .before .closed-beyond .ensures ∙ ap (λ (k : ℕ). closedBeyond k (a .op .receive)) (sym e))
 
+-- the row on too many words is tested
+abbrev Words : Type 0
+Words = tie.After-row4
+
+abbrev to-partner : Words → Partner
+to-partner w = w .before .before .before
+
+abbrev words-read : Words → Read
+words-read w = partner-read (to-partner w)
+
+-- what it says
+words : (w : Words) → w .row4 .result ≡ firstRefusal (tooManyWords (entry (words-read w) .args .op) ∷ [])
+unfolding tooManyWords
+words w = w .row4 .ensures
+
+-- the row on time codes is tested
+abbrev Time : Type 0
+Time = tie.After-row5
+
+abbrev to-words : Time → Words
+to-words w = w .before .before .before
+
+abbrev time-read : Time → Read
+time-read w = words-read (to-words w)
+
+-- what it says
+time : (w : Time) → w .row5 .result ≡ firstRefusal (badTime (entry (time-read w) .args .op) ∷ [])
+unfolding badTime
+time w =
+    let r = time-read w in
+    w .row5 .ensures ∙ row-as 10 _ _ (time-row (entry r .args .op) _ _ (r .before .has-receive .ensures) (r .receive-time .ensures))
+
+-- ---- the rows are joined, the last two first
 returns : tie.Need-returns
 unfolding operationRows neitherPart withItself noPartner tooManyWords badTime
-returns c =
-    let a = c .before .before .before .before .before .before .before .before .before .before .before .before .before .before .before .before .before .before .before .before .before .args in
-    let has-receive-result = c .before .before .before .before .before .before .before .before .before .before .before .before .before .before .before .before .before .before .before .has-receive .ensures in
-    λ t e.
-    let o = a .op in
-    c .first4 .ensures ∙ first-joined (neitherPart o ∷ []) _ _ _ refl (c .before .before .before .before .before .before .before .before .before .before .before .before .before .before .before .before .row .ensures ∙ row-as 6 _ _ (ap (λ (b : Bool). not (o .send .present || b)) has-receive-result))
-    (c .before .first3 .ensures ∙ first-joined (withItself (a .x) o ∷ []) _ _ _ refl (c .before .before .before .before .before .before .before .before .before .before .before .before .row2 .ensures ∙ row-as 7 _ _ (ap (λ (b : Bool). o .send .present && eqb (o .send .target) (a .x) || b) (c .before .before .before .before .before .before .before .before .before .before .before .before .before .closed-on .ensures)))
-    (c .before .before .first2 .ensures ∙ first-joined (noPartner t o ∷ []) _ _ _ refl (c .before .before .before .before .before .before .before .before .before .before .row3 .ensures ∙ row-as 8 _ _ (c .before .before .before .before .before .before .before .before .before .before .before .closed-beyond .ensures ∙ ap (λ (k : ℕ). closedBeyond k (o .receive)) (sym e)))
-    (c .before .before .before .first .ensures ∙ first-joined (tooManyWords o ∷ []) (badTime o ∷ []) _ _ refl (c .before .before .before .before .before .before .before .row4 .ensures) (c .before .before .before .before .row5 .ensures ∙ row-as 10 _ _ (time-row o _ _ has-receive-result (c .before .before .before .before .before .before .before .before .before .before .before .before .before .before .before .before .before .before .receive-time .ensures))))))
+returns c = λ t e.
+    let last : Time = c .before .before .before .before in
+    let fourth = to-words last in
+    let third = to-partner fourth in
+    let second = to-itself third in
+    let first = to-neither second in
+    let a = entry (neither-read first) .args in
+    c .first4 .ensures ∙ first-joined (neitherPart (a .op) ∷ []) _ _ _ refl (neither first)
+    (c .before .first3 .ensures ∙ first-joined (withItself (a .x) (a .op) ∷ []) _ _ _ refl (itself second)
+    (c .before .before .first2 .ensures ∙ first-joined (noPartner t (a .op) ∷ []) _ _ _ refl (partner third t e)
+    (c .before .before .before .first .ensures ∙ first-joined (tooManyWords (a .op) ∷ []) (badTime (a .op) ∷ []) _ _ refl (words fourth) (time last))))
 
 pub operation-refusal-spec : {M : Type 1} → statement M
 operation-refusal-spec =
     tie.close
     (tie.spec
-    has-receive-requires
-    receive-time-requires
-    row-requires
-    closed-on-requires
-    row-requires-2
-    closed-beyond-requires
-    row-requires-3
-    row-requires-4
-    row-requires-5
-    first-requires
-    first-requires-2
-    first-requires-3
-    first-requires-4
+    (λ c κs. search needs)
+    (λ c κs. search needs)
+    (λ c κs. search needs)
+    (λ c κs. search needs)
+    (λ c κs. search needs)
+    (λ c κs. search needs)
+    (λ c κs. search needs)
+    (λ c κs. search needs)
+    (λ c κs. search needs)
+    (λ c κs. search needs)
+    (λ c κs. search needs)
+    (λ c κs. search needs)
+    (λ c κs. search needs)
     returns)

@@ -15,38 +15,34 @@ Inv-loop bytes₀ words i₀ bytes i = (i ≤ 8) × (length bytes ≡ 42) × (le
 abbrev μ-loop : tie.MeasureT-loop
 μ-loop bytes₀ words i₀ bytes i = 8 - i
 
+-- ---- the place of the code from which the needs below speak
+-- the top of the loop
+abbrev Top : Type 0
+Top = tie.At-loop Inv-loop μ-loop
+
+-- there, what was asked at the entry
+asked : (p : Top) → length (p .before .before .args .bytes .now) ≡ 42
+asked p = p .before .before .pre
+
+-- ---- the needs
 loop-holds : tie.Need-loop-holds Inv-loop μ-loop
 loop-holds c = (search needs, search needs, search needs, none-put _ _ (c .before .pre) (search needs))
 
-mul-put-word : tie.Need-mul-put-word Inv-loop μ-loop
-mul-put-word c = search needs
-
-add-put-word : tie.Need-add-put-word Inv-loop μ-loop
-add-put-word c = search needs
-
-mul-put-word-2 : tie.Need-mul-put-word-2 Inv-loop μ-loop
-mul-put-word-2 c = search needs
-
-array-read-put-word : tie.Need-array-read-put-word Inv-loop μ-loop
-array-read-put-word c = search needs
-
-put-word-requires : tie.Need-put-word-requires Inv-loop μ-loop
-put-word-requires c κs = search needs
-
-add-i : tie.Need-add-i Inv-loop μ-loop
-add-i c = search needs
-
-loop-less : tie.Need-loop-less Inv-loop μ-loop
-loop-less c = search needs
-
 loop-again : tie.Need-loop-again Inv-loop μ-loop
-loop-again c = (search needs, search needs, search needs, c .before .before .put-word .ensures ∙ rw (c .before .before .before .before .before .loop .inv .3) (more-put _ _ (c .before .before .before .before .before .before .before .pre) (c .before .before .before .before .before .loop .inv .2) _ (c .before .before .before .before .loop-test .taken)))
-
-same-length : tie.Need-same-length Inv-loop μ-loop
-same-length c = search needs
+loop-again c =
+    let turn = c .before .before .before .before in
+    let p : Top = turn .before in (
+      search needs,
+      search needs,
+      search needs,
+      c .before .before .put-word .ensures ∙ rw (p .loop .inv .3) (more-put _ _ (asked p) (p .loop .inv .2) _ (turn .loop-test .taken)),
+    )
 
 returns : tie.Need-returns Inv-loop μ-loop
-returns c = let all : c .before .loop .i ≡ 8 = omega arith in rw (c .before .loop .inv .3, all) (all-put _ _ (c .before .before .before .pre) (c .before .loop .inv .2))
+returns c =
+    let p : Top = c .before in
+    let all : p .loop .i ≡ 8 = omega arith in
+    rw (p .loop .inv .3, all) (all-put _ _ (asked p) (p .loop .inv .2))
 
 pub put-words-spec : {M : Type 1} → statement M
 put-words-spec =
@@ -55,13 +51,13 @@ put-words-spec =
     Inv-loop
     μ-loop
     loop-holds
-    mul-put-word
-    add-put-word
-    mul-put-word-2
-    array-read-put-word
-    put-word-requires
-    add-i
-    loop-less
+    (λ c. search needs)
+    (λ c. search needs)
+    (λ c. search needs)
+    (λ c. search needs)
+    (λ c κs. search needs)
+    (λ c. search needs)
+    (λ c. search needs)
     loop-again
-    same-length
+    (λ c. search needs)
     returns)

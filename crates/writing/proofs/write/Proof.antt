@@ -1,43 +1,88 @@
-use mathlib.Core.Path.{sym, _∙_}
+use mathlib.Core.Bool.{true}
+use mathlib.Core.Path.{_≡_, sym, _∙_}
 use Prim.Native.Nat.{_≤_}
+use native.Mathlib.Omega.{arith}
 use lib.Seq.{length-take-le}
 use lib.ListN.{length}
 use borrow.Author.Tests.{not-true, not-false}
 use borrow.Author.Needs.{needs}
+use Rattle.model.specs.RecordBytes.{recordLength, lawful}
+use Rattle.model.specs.Decoding.{front}
+use Rattle.writing.specs.Spelled.{isBare}
 use Rattle.writing.proofs.Promised.{record-fits, not-bare, not-lawful, too-long, well-written}
 use Rattle.writing.proofs.write.Statement.{statement}
 use Rattle.writing.proofs.write.Tie as tie
 
-spell-requires : tie.Need-spell-requires
-spell-requires c κs = search needs
+-- ---- the places of the code from which the needs below speak; each leads back to the one before
+-- the record is spelled as if it were a begin
+abbrev Spelled : Type 0
+Spelled = tie.After-spell
 
-slice-aggregate-is-bare : tie.Need-slice-aggregate-is-bare
-slice-aggregate-is-bare c = search needs
+abbrev entry : Spelled → tie.Start
+entry s = s .before .before
 
-is-bare-requires : tie.Need-is-bare-requires
-is-bare-requires c κs = search needs
+-- so it has a begin's 42 bytes
+whole : (s : Spelled) → length (s .spell .result) ≡ 42
+whole s = search needs
 
-returns : tie.Need-returns
-returns c = not-bare _ _ (c .before .before .before .spell .ensures) (search needs) _ _ (sym (c .before .is-bare .ensures) ∙ not-true (c .before .is-bare .result) (c .if1 .taken))
+-- it is tested whether the record is bare
+abbrev BareTested : Type 0
+BareTested = tie.After-is-bare
 
-slice-aggregate-is-lawful : tie.Need-slice-aggregate-is-lawful
-slice-aggregate-is-lawful c = search needs
+abbrev spelled : BareTested → Spelled
+spelled b = b .before .before
 
-is-lawful-requires : tie.Need-is-lawful-requires
-is-lawful-requires c κs = search needs
+-- it is bare, and it is tested whether its bytes are lawful
+abbrev LawfulTested : Type 0
+LawfulTested = tie.After-is-lawful
 
-returns-2 : tie.Need-returns-2
-returns-2 c = not-lawful _ _ (c .before .before .before .before .before .before .spell .ensures) (search needs) _ _ (sym (c .before .is-lawful .ensures) ∙ not-true (c .before .is-lawful .result) (c .if2 .taken))
+abbrev bare-tested : LawfulTested → BareTested
+bare-tested l = l .before .before .before
 
-record-length-requires : tie.Need-record-length-requires
-record-length-requires c κs = search needs
+-- it is a begin, or the bytes of its operation are 0
+bare : (l : LawfulTested) → let s = spelled (bare-tested l) in isBare (entry s .args .item .kind) (s .spell .result) ≡ true
+bare l = let b = bare-tested l in sym (b .is-bare .ensures) ∙ not-false (b .is-bare .result) (l .before .before .if1 .left)
 
-returns-3 : tie.Need-returns-3
-returns-3 c = too-long _ _ (c .before .before .before .before .before .before .before .before .spell .ensures) (search needs) _ _ _ (c .before .record-length .ensures) (c .if3 .taken)
+-- they are, and the record's length is known
+abbrev Measured : Type 0
+Measured = tie.After-record-length
+
+abbrev lawful-tested : Measured → LawfulTested
+lawful-tested m = m .before .before
+
+-- its bytes are lawful
+lawfully : (m : Measured) → let s = spelled (bare-tested (lawful-tested m)) in lawful (entry s .args .first) (front (s .spell .result)) ≡ true
+lawfully m = let l = lawful-tested m in sym (l .is-lawful .ensures) ∙ not-false (l .is-lawful .result) (m .before .if2 .left)
+
+-- the length is that of the record's kind
+long : (m : Measured) → m .record-length .result ≡ recordLength (entry (spelled (bare-tested (lawful-tested m))) .args .item .kind)
+long m = m .record-length .ensures
 
 -- the record is not longer than what is spelled
-within : (c : tie.After-record-length) → c .record-length .result ≤ length (c .before .before .before .before .before .before .before .spell .result)
-within c = rw (c .record-length .ensures) (record-fits _ _ (c .before .before .before .before .before .before .before .spell .ensures) (search needs))
+within : (m : Measured) → m .record-length .result ≤ length (spelled (bare-tested (lawful-tested m)) .spell .result)
+within m = let s = spelled (bare-tested (lawful-tested m)) in omega (arith, long m, record-fits _ _ (s .spell .ensures) (whole s))
+
+-- ---- the needs
+-- refused: the record is not bare
+returns : tie.Need-returns
+returns c =
+    let b = c .before in
+    let s = spelled b in
+    not-bare _ _ (s .spell .ensures) (whole s) _ _ (sym (b .is-bare .ensures) ∙ not-true (b .is-bare .result) (c .if1 .taken))
+
+-- refused: its bytes are not lawful
+returns-2 : tie.Need-returns-2
+returns-2 c =
+    let l = c .before in
+    let s = spelled (bare-tested l) in
+    not-lawful _ _ (s .spell .ensures) (whole s) _ _ (sym (l .is-lawful .ensures) ∙ not-true (l .is-lawful .result) (c .if2 .taken))
+
+-- refused: there are too few bytes for the record
+returns-3 : tie.Need-returns-3
+returns-3 c =
+    let m = c .before in
+    let s = spelled (bare-tested (lawful-tested m)) in
+    too-long _ _ (s .spell .ensures) (whole s) _ _ _ (long m) (c .if3 .taken)
 
 array-share-prefix-space : tie.Need-array-share-prefix-space
 array-share-prefix-space c = within (c .before)
@@ -48,27 +93,31 @@ slice-aggregate-copy-front c = sym (length-take-le _ _ (within (c .before .befor
 copy-front-requires : tie.Need-copy-front-requires
 copy-front-requires c κs = rw (length-take-le _ _ (within (c .before .before .before))) (c .before .before .if3 .left)
 
-same-length : tie.Need-same-length
-same-length c = search needs
-
+-- the record is written
 returns-4 : tie.Need-returns-4
-returns-4 c = well-written _ _ (c .before .before .before .before .before .before .before .before .before .before .before .before .before .spell .ensures) (search needs) _ _ _ (c .before .before .before .before .before .before .record-length .ensures) (sym (c .before .before .before .before .before .before .before .before .before .before .before .is-bare .ensures) ∙ not-false (c .before .before .before .before .before .before .before .before .before .before .before .is-bare .result) (c .before .before .before .before .before .before .before .before .before .before .if1 .left)) (sym (c .before .before .before .before .before .before .before .before .is-lawful .ensures) ∙ not-false (c .before .before .before .before .before .before .before .before .is-lawful .result) (c .before .before .before .before .before .before .before .if2 .left)) (c .before .before .before .before .before .if3 .left) _ (c .before .before .copy-front .ensures)
+returns-4 c =
+    let copied = c .before .before in
+    let fits = copied .before .before .before in
+    let m = fits .before in
+    let l = lawful-tested m in
+    let s = spelled (bare-tested l) in
+    well-written _ _ (s .spell .ensures) (whole s) _ _ _ (long m) (bare l) (lawfully m) (fits .if3 .left) _ (copied .copy-front .ensures)
 
 pub write-spec : {M : Type 1} → statement M
 write-spec =
     tie.close
     (tie.spec
-    spell-requires
-    slice-aggregate-is-bare
-    is-bare-requires
+    (λ c κs. search needs)
+    (λ c. search needs)
+    (λ c κs. search needs)
     returns
-    slice-aggregate-is-lawful
-    is-lawful-requires
+    (λ c. search needs)
+    (λ c κs. search needs)
     returns-2
-    record-length-requires
+    (λ c κs. search needs)
     returns-3
     array-share-prefix-space
     slice-aggregate-copy-front
     copy-front-requires
-    same-length
+    (λ c. search needs)
     returns-4)

@@ -3,7 +3,7 @@
 --     asks, exits    what the report call asks;  and from nothing to the contract's clause, since all that is owned at the end is plain data
 -- A rule names an entry of the context by its place, counted from 0. A local is two entries: what lies in it, and the right to free it.
 -- Assumes nothing.
-use mathlib.Core.Path.{_≡_, refl, sym, _∙_, ap, subst}
+use mathlib.Core.Path.{_≡_, refl, sym, _∙_, subst}
 use mathlib.Core.List.{List, [], _∷_, _++_, map}
 use Prim.Native.Nat.{ℕ, _≤_, _<_, _^_}
 use native.Mathlib.Omega.{arith}
@@ -40,7 +40,7 @@ use denote.Shadow.{shadow}
 use denote.Array.{Array, each, array-vals, array-tells, array-typed, array-makes}
 use denote.ArrayMemory.{array-apart, array-whole}
 use denote.Ref.{RefT}
-use denote.Slice.{sliceTy, sliceVal, MutSlice, Room, finally}
+use denote.Slice.{sliceTy, sliceVal, MutSlice, Room}
 use denote.Lend.{Held, lends-slice, slice-back}
 use denote.Index.{row, whole-out, whole-in}
 use denote.Steps.{only, nothing, owned, peeks}
@@ -280,7 +280,8 @@ module _ {M : Type 1} (𝓤 : URA M) (H : Heap 𝓤) (A : Atoms 𝓤) (W : Given
         (whole l₄ (zs .1 .0) (after k ys) (same-len k ys (zs .1 .0) same ∙ records-is .1 .0 .1)) $ learn ! (λ whole-is.
         -- the result
         assigns ! (of-opd ! (local ! 0 refl)) (from ! (stop !)) (init ! 4 refl (typed (back (zs .1 .0)) whole-is)) $
-        assigns ! (agg ! (and-then ! (local ! 10 refl) (and-then ! (local ! 4 refl) (no-more !)))) (from ! (stop !)) (init ! 19 refl (struct.lawful filled.the-type filled-laws.the-laws 𝓤 H A W .typed (result r (zs .1 .0)) (resultValue v (zs .1 .0) ∷ []) (filled-is r v (back (zs .1 .0)) (recordsValue (back (zs .1 .0))) r-is whole-is) .0)) $
+        assigns ! (agg ! (and-then ! (local ! 10 refl) (and-then ! (local ! 4 refl) (no-more !)))) (from ! (stop !))
+        (init ! 19 refl (struct.lawful filled.the-type filled-laws.the-laws 𝓤 H A W .typed (result r (zs .1 .0)) (resultValue v (zs .1 .0) ∷ []) (filled-is r v (back (zs .1 .0)) (recordsValue (back (zs .1 .0))) r-is whole-is) .0)) $
         returns ! (look ! 19 refl) $ forget ! 0 refl $ forget ! 4 refl $ forget ! 6 refl $ forget ! 8 refl $ forget ! 10 refl $ forget ! 13 refl $ forget ! 15 refl $ forget ! 17 refl $ forget ! 19 refl $
         move ! (19 ∷ 20 ∷ 17 ∷ 18 ∷ 15 ∷ 16 ∷ 13 ∷ 14 ∷ 0 ∷ 12 ∷ 10 ∷ 11 ∷ 8 ∷ 9 ∷ 6 ∷ 7 ∷ 4 ∷ 5 ∷ []) $
         free1 ! $ free1 ! $ free1 ! $ free1 ! $ free1 ! $ free1 ! $ free1 ! $ free1 ! $ free1 ! $ free0 ! $ keep ! [] $ by ! (exits (result r (zs .1 .0)) (resultValue v (zs .1 .0)) (filled-is r v (back (zs .1 .0)) (recordsValue (back (zs .1 .0))) r-is whole-is)))))))))))))))))))
