@@ -1,5 +1,5 @@
 -- A step that has done what its tests and its phase settle on, and what it leaves of the words.
-use mathlib.Core.Path.{_≡_, sym, ap, subst}
+use mathlib.Core.Path.{_≡_, sym, ap, subst, _∙_}
 use mathlib.Core.Logic.{_≢_}
 use mathlib.Core.List.{List}
 use Prim.Native.Nat.{ℕ}
@@ -30,3 +30,8 @@ words-kept h words d = sym (cond-false _ _ _ (ne-eqb _ _ d))
 pub words-copied : (h : Thread) (words : List ℕ) → h .phase ≡ phaseNumber copy → wordAdded h words ≡ wordsAfter h words
 unfolding wordsAfter
 words-copied h words e = sym (cond-true _ _ _ (eq-eqb _ _ e))
+
+-- a step in a phase other than copy has done what the phase settles on, and changed no word
+pub acted-in : (p : Phase) → phaseNumber p ≢ phaseNumber copy → (x : ℕ) (h r : Thread) (c : Change) (words : List ℕ) → h .phase ≡ phaseNumber p
+    → Acted (decideIn p x h r) x h r c → Acted (decideIn (phaseOf (h .phase)) x h r) x h r c × (words ≡ wordsAfter h words)
+acted-in p d x h r c words e done = (settled-in p x h r c e done, words-kept h words (λ k. d (sym e ∙ k)))
