@@ -102,6 +102,10 @@ begin-requires c κs =
     (place-below t _ _ _ (place-rows p) none) (place-store t _ _ _ (place-rows p) none) (s .args .op)
     ∙ sym (begin-rows b) ∙ c .before .if3 .left
 
+-- no row holds: what the core promises is promised
+returns-4 : tie.Need-returns-4
+returns-4 c = search needs
+
 pub begin-spec : {M : Type 1} → statement M
 begin-spec =
     tie.close
@@ -119,4 +123,4 @@ begin-spec =
     returns-3
     begin-requires
     (λ c. search needs)
-    (λ c. search needs))
+    returns-4)

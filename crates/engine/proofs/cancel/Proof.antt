@@ -99,6 +99,10 @@ cancel-requires c κs =
     cancel-accepted (found s []) (table-formed t _ (table-tested m .table-refusal .ensures) (m .before .if1 .left)) (s .args .thread)
     (number-below t _ _ (number-row m) (l .before .before .if2 .left)) (lock-unowned t _ _ (lock-row l) (c .if3 .left))
 
+-- no row holds: what the core promises is promised
+returns-4 : tie.Need-returns-4
+returns-4 c = search needs
+
 pub cancel-spec : {M : Type 1} → statement M
 cancel-spec =
     tie.close
@@ -115,4 +119,4 @@ cancel-spec =
     (λ c κs. search needs)
     returns-3
     cancel-requires
-    (λ c. search needs))
+    returns-4)

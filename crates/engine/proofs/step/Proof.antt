@@ -55,6 +55,10 @@ step-requires c κs =
     step-accepted _ (table-formed (a .table) _ (t .table-refusal .ensures) (p .before .if1 .left)) (a .thread)
     (place-below (a .table) _ _ _ (place-rows p) none) (place-store (a .table) _ _ _ (place-rows p) none)
 
+-- no row holds: what the core promises is promised
+returns-3 : tie.Need-returns-3
+returns-3 c = search needs
+
 pub step-spec : {M : Type 1} → statement M
 step-spec =
     tie.close
@@ -67,4 +71,4 @@ step-spec =
     returns-2
     step-requires
     (λ c. search needs)
-    (λ c. search needs))
+    returns-3)
