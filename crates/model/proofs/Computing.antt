@@ -1,6 +1,6 @@
 -- Names that open definitions, one for each file and one for all: a proof that says `unfolding computing` works a closed case out.
 -- The files of rows stand in a chain, `LawfulBytes` first and `Replays`, the dearest, last: each ends with a name, as `afterForbidden`, that opens what `computing` opens and rests on the rows
--- of its file, and the next file works its rows out by that name. So where a row fails, those behind it are refused at once, and a must-fail edit of the definitions costs half.
+-- of its file, and the next file works its rows out by that name. So where a row fails, those behind it are refused at once, and a must-fail edit of the definitions costs about a third less.
 use Prim.Native.Nat.{ℕ}
 use Rattle.model.specs.Lists
 use Rattle.model.specs.Codes

@@ -1,4 +1,4 @@
--- Document 01, "Schedule bytes": rules of lawful bytes that a wrong definition could lose unseen, each broken alone by a schedule, and what `bondtrace` prints for it.
+-- Document 01, "Schedule bytes": rules of lawful bytes, each broken alone by a schedule, and what `bondtrace` prints for it. For each there is a must-fail edit that drops it.
 -- The other rules are run: `vectors` plays a schedule for each.
 use mathlib.Core.Path.{_≡_, refl}
 use mathlib.Core.List.{List, [], _∷_, _++_}
