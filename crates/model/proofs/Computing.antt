@@ -95,7 +95,7 @@ unfolding RecordBytes.recordLength RecordBytes.wordAt RecordBytes.sendBit Record
 bytes = 0
 
 unfoldable pub texts : ℕ
-unfolding Bondtrace.ascii Bondtrace.digits Bondtrace.decimal Bondtrace.signed Bondtrace.callOf Bondtrace.recordPlayed Bondtrace.recordsPlayed
+unfolding Bondtrace.ascii Bondtrace.digits Bondtrace.decimal Bondtrace.signed Bondtrace.spaced Bondtrace.callOf Bondtrace.recordPlayed Bondtrace.recordsPlayed
     Bondtrace.started Bondtrace.threadLine Bondtrace.finalText Bondtrace.badLine Bondtrace.callsText Bondtrace.readingText Bondtrace.bondtrace
 texts = 0
 

@@ -43,6 +43,10 @@ unfoldable pub signed : ℤ → List ℕ
 signed (pos n) = decimal n
 signed (negsuc n) = ascii "-" ++ decimal (suc n)
 
+-- numbers, each behind a space
+unfoldable pub spaced : List ℕ → List ℕ
+spaced numbers = concat (map (λ number. ascii " " ++ decimal number) numbers)
+
 -- ---- playing a schedule
 -- the call of a record that is not the table's
 unfoldable pub callOf : Record → Call
@@ -84,7 +88,7 @@ unfoldable pub threadLine : State → ℕ → List ℕ
 threadLine s x =
     let v = view s x in
     decimal x ++ ascii " " ++ signed (v .outcome .code) ++ ascii " " ++ decimal (v .outcome .source) ++ ascii " " ++ decimal (v .outcome .count)
-    ++ concat (map (λ word. ascii " " ++ decimal word) (v .words)) ++ ascii "\n"
+    ++ spaced (v .words) ++ ascii "\n"
 
 -- "Line one: records read, the table's included, and calls refused. Then per thread .."
 unfoldable pub finalText : Tally → List ℕ

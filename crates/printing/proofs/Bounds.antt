@@ -10,10 +10,10 @@ use Rattle.model.specs.Threads.{at}
 use Rattle.model.specs.Store.{wordsAt}
 use Rattle.model.specs.Calls.{State}
 use Rattle.model.specs.Promise.{view}
-use Rattle.model.specs.Bondtrace.{ascii, Tally, threadLine, finalText, badLine}
+use Rattle.model.specs.Bondtrace.{ascii, spaced, Tally, threadLine, finalText, badLine}
 use Rattle.laws.proofs.Joined.{concat-snoc}
-use Rattle.text.specs.Texts.{spaced, longestWord}
-use Rattle.text.proofs.Digits.{decimal-short}
+use Rattle.text.specs.Texts.{longestWord}
+use Rattle.laws.proofs.Digits.{decimal-short}
 use Rattle.text.proofs.Signs.{signed-short}
 use Rattle.printing.specs.Texts.{outcomeText, threadsText, longestOutcome, longestLine, longestText, longestBadLine}
 use Rattle.printing.proofs.Texts.{threads-none, line-parts}

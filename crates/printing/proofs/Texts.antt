@@ -10,9 +10,9 @@ use Rattle.model.specs.declared.Table.{Table}
 use Rattle.model.specs.Threads.{at, zeroThread}
 use Rattle.model.specs.Calls.{State}
 use Rattle.model.specs.Promise.{view}
-use Rattle.model.specs.Bondtrace.{ascii, Tally, threadLine, finalText}
+use Rattle.model.specs.Bondtrace.{ascii, spaced, Tally, threadLine, finalText}
 use Rattle.laws.proofs.Joined.{concat-snoc}
-use Rattle.text.specs.Texts.{spaced, numbersLine}
+use Rattle.text.specs.Texts.{numbersLine}
 use Rattle.text.specs.Writing.{Written}
 use Rattle.text.proofs.Writing.{_then_}
 use Rattle.printing.specs.Texts.{outcomeText, threadsText}

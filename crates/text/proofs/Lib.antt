@@ -1,4 +1,3 @@
-pub mod Digits
 pub mod Signs
 pub mod Words
 pub mod Writing

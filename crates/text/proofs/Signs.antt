@@ -14,7 +14,7 @@ use mir.Facts.{toZ-ofZ, sfits-widen, fits-natAbs}
 use borrow.Author.Tests.{ltb-true}
 use Rattle.model.specs.Lists.{upTo}
 use Rattle.model.specs.Bondtrace.{ascii, decimal, signed}
-use Rattle.text.proofs.Digits.{decimal-short}
+use Rattle.laws.proofs.Digits.{decimal-short}
 
 -- a code below zero is zero less its magnitude
 pub negated : (z : ℤ) → ltZ z (pos 0) ≡ true → pos 0 -ℤ z ≡ pos (natAbs z)

@@ -1,17 +1,14 @@
--- Laws of words as text: one word behind the others, and how long they are at most.
+-- Laws of words as text: one word behind the others.
 use mathlib.Core.Path.{_≡_, refl}
 use mathlib.Core.List.{List, [], _∷_, map-append}
-use Prim.Native.Nat.{ℕ, suc, _+_, _*_, _^_, _≤_, _<_}
-use native.Mathlib.Omega.{arith}
+use Prim.Native.Nat.{ℕ, _+_, _≤_, _<_}
 use native.Mathlib.Numerals.{add-one}
-use lib.ListN.{length, take, getD, length-append}
+use lib.ListN.{length, take, getD}
 use lib.Seq.{take-suc, take-all}
 use Rattle.model.specs.Lists.{upTo, concat}
-use Rattle.model.specs.Bondtrace.{ascii, decimal}
+use Rattle.model.specs.Bondtrace.{ascii, decimal, spaced}
 use Rattle.laws.proofs.Joined.{concat-snoc}
-use Rattle.text.specs.Texts.{spaced, longestWord}
 use Rattle.text.specs.Writing.{Written}
-use Rattle.text.proofs.Digits.{decimal-short}
 use Rattle.text.proofs.Writing.{_then_}
 
 -- no word is no text
@@ -29,11 +26,3 @@ module _ (words : List ℕ) (i : ℕ) {start middle : ℕ} {before between : Lis
   -- at the end they are all of them
   pub all-words : length words ≤ i → Written start (spaced words) before between middle
   all-words passed = rw (take-all i words passed) at v
-
--- each word has at most eleven bytes
-pub spaced-short : (words : List ℕ) → ((i : ℕ) → getD words i 0 < 2 ^ 32) → length (spaced words) ≤ longestWord * length words
-unfolding spaced concat ascii upTo
-spaced-short [] small = omega arith
-spaced-short (word ∷ words) small =
-    simp length-append
-    (omega (arith, decimal-short 9 word (omega (arith, small 0)), spaced-short words (λ i. small (suc i))))

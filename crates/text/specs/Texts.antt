@@ -1,14 +1,9 @@
 -- Words, numbers and answers as text, and the most bytes that a word has.
-use mathlib.Core.List.{List, _++_, map}
+use mathlib.Core.List.{List, _++_}
 use Prim.Native.Nat.{ℕ}
 use Rattle.model.specs.declared.Answer.{Answer}
 use Rattle.model.specs.declared.Answer.the-variants.{Refused, Accepted, Marked, NothingToCancel, Moved, Idle, Held, Wants, Asleep}
-use Rattle.model.specs.Lists.{concat}
 use Rattle.model.specs.Bondtrace.{ascii, decimal}
-
--- words, each behind a space
-unfoldable pub spaced : List ℕ → List ℕ
-spaced words = concat (map (λ word. ascii " " ++ decimal word) words)
 
 -- a line of two numbers, each behind its name
 unfoldable pub numbersLine : List ℕ → ℕ → List ℕ → ℕ → List ℕ

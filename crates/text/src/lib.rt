@@ -4,8 +4,8 @@ ghost use mathlib.Core.List.{[], _∷_};
 ghost use Prim.Native.Nat.{_*_, _≤_};
 ghost use lib.ListN.{length};
 ghost use lib.IntN.{natAbs};
-ghost use Rattle.model.specs.Bondtrace.{decimal, signed};
-ghost use Rattle.text.specs.Texts.{spaced, numbersLine, answerText, longestWord};
+ghost use Rattle.model.specs.Bondtrace.{decimal, signed, spaced};
+ghost use Rattle.text.specs.Texts.{numbersLine, answerText, longestWord};
 ghost use Rattle.text.specs.Writing.{Written};
 use model::Answer;
 

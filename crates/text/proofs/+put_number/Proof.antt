@@ -3,7 +3,7 @@ use native.Mathlib.Omega.{arith}
 use borrow.Fn.Kinds.{In}
 use borrow.Fn.PlainCycle.{Measures, is, falls, and}
 use borrow.Author.Needs.{needs}
-use Rattle.text.proofs.Digits.{decimal-one, decimal-more}
+use Rattle.laws.proofs.Digits.{decimal-one, decimal-more}
 use Rattle.text.proofs.Writing.{_then_}
 use Rattle.text.proofs.put_number.Reads as put-number
 use Rattle.text.proofs.put_number.Kinds as put-number-kinds

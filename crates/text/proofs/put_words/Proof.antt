@@ -2,10 +2,11 @@ use Prim.Native.Nat.{_-_, _≤_}
 use native.Mathlib.Omega.{arith}
 use lib.ListN.{length, take}
 use borrow.Author.Needs.{needs}
-use Rattle.text.specs.Texts.{spaced}
+use Rattle.model.specs.Bondtrace.{spaced}
 use Rattle.text.specs.Writing.{Written}
 use Rattle.text.proofs.Writing.{nothing-written, written-length}
-use Rattle.text.proofs.Words.{spaced-none, one-more-word, all-words, spaced-short}
+use Rattle.laws.proofs.Digits.{spaced-short}
+use Rattle.text.proofs.Words.{spaced-none, one-more-word, all-words}
 use Rattle.text.proofs.put_words.Statement.{statement}
 use Rattle.text.proofs.put_words.Tie as tie
 

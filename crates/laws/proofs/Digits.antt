@@ -1,13 +1,14 @@
--- A number's decimal by its last digit, and how many digits there are at most.
+-- A number's decimal by its last digit, and how long numbers as text are at most.
 use mathlib.Core.Path.{_≡_, refl}
-use mathlib.Core.List.{[], _∷_, _++_}
-use Prim.Native.Nat.{ℕ, zero, suc, _-_, _/_, _%_, _^_, _≤_, _<_}
+use mathlib.Core.List.{List, [], _∷_, _++_}
+use Prim.Native.Nat.{ℕ, zero, suc, _-_, _*_, _/_, _%_, _^_, _≤_, _<_}
 use native.Mathlib.Omega.{arith}
 use native.Mathlib.Nat.{mod-lt, mod-eq-of-lt, le-div-iff-mul-le, div-lt-iff-lt-mul, one-le-pow}
-use lib.ListN.{length, length-append}
+use lib.ListN.{length, getD, length-append}
 use lib.Dec.{ltb}
 use borrow.Author.Tests.{lt-ltb, le-ltb, ltb-true, ltb-false}
-use Rattle.model.specs.Bondtrace.{digit, digits, decimal}
+use Rattle.model.specs.Lists.{upTo, concat}
+use Rattle.model.specs.Bondtrace.{ascii, digit, digits, decimal, spaced}
 use Rattle.model.proofs.Laws.{by}
 
 -- where as many digits are allowed for as the number says, more change nothing
@@ -46,3 +47,11 @@ digits-short (suc most) (suc k) n small = by (ltb n 10)
 pub decimal-short : (k n : ℕ) → n < 10 ^ suc k → length (decimal n) ≤ suc k
 unfolding decimal
 decimal-short k n small = digits-short (suc n) k n small
+
+-- each of some words of 32 bits has at most eleven bytes, the space before it included
+pub spaced-short : (words : List ℕ) → ((i : ℕ) → getD words i 0 < 2 ^ 32) → length (spaced words) ≤ 11 * length words
+unfolding spaced concat ascii upTo
+spaced-short [] small = omega arith
+spaced-short (word ∷ words) small =
+    simp length-append
+    (omega (arith, decimal-short 9 word (omega (arith, small 0)), spaced-short words (λ i. small (suc i))))

@@ -1,0 +1,2 @@
+pub mod Computing
+pub mod Lines

@@ -1,0 +1,121 @@
+-- Lines and the commands that they are, worked out from the definitions: for each rule one that keeps it and one that does not.
+use mathlib.Core.Bool.{true}
+use mathlib.Core.Path.{_≡_, refl}
+use mathlib.Core.List.{List, [], _∷_}
+use Prim.Native.Nat.{ℕ}
+use Prim.Native.String.{String}
+use Rattle.model.specs.declared.Receive.the-variants.{Absent, Open, Closed}
+use Rattle.model.specs.declared.Operation.{Operation}
+use Rattle.model.specs.declared.Receive.{Receive}
+use Rattle.model.specs.Threads.{noOperation}
+use Rattle.model.specs.Bondtrace.{ascii}
+use Rattle.language.specs.Commands.{Command, skipped, wrong, asked, commandOf, noCommand, noField, noPart, missing, notNumber, tooLarge, tooSmall, tooMuch}
+use Rattle.language.proofs.Computing.{computing}
+
+-- a line, and the command that it is
+pub record LineRow : Type 0 where
+  pub line : String
+  pub command : Command
+
+-- a row as it is written below: a command without an operation
+abbrev asks : String → ℕ → List ℕ → LineRow
+asks line row numbers = record { line = line; command = asked row numbers noOperation }
+
+-- one that is no command: the reason, and the word that is wrong
+abbrev refuses : String → ℕ → String → LineRow
+refuses line reason word = record { line = line; command = wrong reason (ascii word) }
+
+-- a receive part alone
+abbrev receives : Receive → Operation
+receives receive = record { send = noOperation .send; receive = receive }
+
+-- the rows
+pub data Name : Type 0 where
+  empty comment blanks return leading steps step-and-more word-of-digits no-command prefix-of-one missing-one largest-byte above-a-byte a-tick ticks no-ticks ticks-again : Name
+  nothing-begun an-open-wait a-call nine-words closed-wait neither-part too-much-behind flags not-a-flag code-below-zero sign-elsewhere only-a-sign field-missing no-field thread-missing : Name
+  thread-past-the-array : Name
+
+-- the line and the command of each
+unfoldable pub row : Name → LineRow
+row empty = record { line = ""; command = skipped }
+row comment = record { line = " # step 0"; command = skipped }
+row blanks = asks "\tcancel \t 3  " 3 (3 ∷ [])
+row return = asks "report\r" 6 []
+row leading = asks "table 0032" 0 (32 ∷ [])
+row steps = asks "step 0 0 255" 2 (0 ∷ 0 ∷ 255 ∷ [])
+row step-and-more = refuses "step 0 x" notNumber "x"
+row word-of-digits = asks "store 320 4294967295" 9 (320 ∷ 4294967295 ∷ [])
+row no-command = refuses "stpe 0" noCommand "stpe"
+row prefix-of-one = refuses "ste 0" noCommand "ste"
+row missing-one = refuses "cancel" missing ""
+row largest-byte = asks "table 255" 0 (255 ∷ [])
+row above-a-byte = refuses "table 256" tooLarge "256"
+row a-tick = asks "tick" 4 []
+row ticks = asks "tick 65535" 4 (65535 ∷ [])
+row no-ticks = refuses "tick 0" tooSmall "0"
+row ticks-again = refuses "tick 1 1" tooMuch "1"
+row nothing-begun = asks "begin 7" 1 (7 ∷ [])
+row an-open-wait = record { line = "begin 1 receive any 15"; command = asked 1 (1 ∷ []) (receives (Open (record { time = 15; partner = 0 }))) }
+row closed-wait = record { line = "begin 1 receive 4 15"; command = asked 1 (1 ∷ []) (receives (Closed (record { time = 15; partner = 4 }))) }
+row a-call = record {
+  line = "begin 0 send 1 15 250 7 receive any 3";
+  command = asked 1 (0 ∷ []) (record {
+    send = record { present = true; target = 1; count = 2; time = 15; words = 250 ∷ 7 ∷ 0 ∷ 0 ∷ 0 ∷ 0 ∷ 0 ∷ 0 ∷ [] };
+    receive = Open (record { time = 3; partner = 0 });
+  });
+}
+row nine-words = record {
+  line = "begin 0 send 1 15 1 2 3 4 5 6 7 8 9";
+  command = asked 1 (0 ∷ []) (record {
+    send = record { present = true; target = 1; count = 9; time = 15; words = 1 ∷ 2 ∷ 3 ∷ 4 ∷ 5 ∷ 6 ∷ 7 ∷ 8 ∷ [] };
+    receive = Absent;
+  });
+}
+row neither-part = refuses "begin 0 sent 1 15" noPart "sent"
+row too-much-behind = refuses "begin 0 receive any 15 0" tooMuch "0"
+row flags = asks "set 31 flags 1 0 0 0 1" 14 (31 ∷ 1 ∷ 0 ∷ 0 ∷ 0 ∷ 1 ∷ [])
+row not-a-flag = refuses "set 0 present 2" tooLarge "2"
+row code-below-zero = asks "set 0 outcome -6 255 0" 18 (0 ∷ 1 ∷ 6 ∷ 255 ∷ 0 ∷ [])
+row sign-elsewhere = refuses "set 0 outcome 0 -1 0" notNumber "-1"
+row only-a-sign = refuses "set 0 outcome - 255 0" notNumber "-"
+row field-missing = refuses "set 0" noField ""
+row no-field = refuses "set 0 flag 1" noField "flag"
+row thread-missing = refuses "set" missing ""
+row thread-past-the-array = refuses "set 32 phase 0" tooLarge "32"
+
+-- each line is the command that stands beside it
+pub lines-read : (n : Name) → commandOf (ascii (row n .line)) ≡ row n .command
+unfolding computing row
+lines-read empty = refl
+lines-read comment = refl
+lines-read blanks = refl
+lines-read return = refl
+lines-read leading = refl
+lines-read steps = refl
+lines-read step-and-more = refl
+lines-read word-of-digits = refl
+lines-read no-command = refl
+lines-read prefix-of-one = refl
+lines-read missing-one = refl
+lines-read largest-byte = refl
+lines-read above-a-byte = refl
+lines-read a-tick = refl
+lines-read ticks = refl
+lines-read no-ticks = refl
+lines-read ticks-again = refl
+lines-read nothing-begun = refl
+lines-read an-open-wait = refl
+lines-read a-call = refl
+lines-read nine-words = refl
+lines-read closed-wait = refl
+lines-read neither-part = refl
+lines-read too-much-behind = refl
+lines-read flags = refl
+lines-read not-a-flag = refl
+lines-read code-below-zero = refl
+lines-read sign-elsewhere = refl
+lines-read only-a-sign = refl
+lines-read field-missing = refl
+lines-read no-field = refl
+lines-read thread-missing = refl
+lines-read thread-past-the-array = refl

@@ -1,0 +1,5 @@
+pub mod Words
+pub mod Grammar
+pub mod Commands
+pub mod RecordText
+pub mod ScheduleText

@@ -1,0 +1,1 @@
+// The language of lines: definitions in specs/, and no function.
