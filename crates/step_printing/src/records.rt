@@ -5,7 +5,7 @@ ghost use lib.ListN.{length};
 use crate::answers::print_answer;
 use crate::answers::print_bad;
 use crate::answers::print_made;
-use crate::fields::print_thread;
+use crate::lines::print_thread;
 use model::Answer;
 use model::Record;
 use model::Returned;
