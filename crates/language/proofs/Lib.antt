@@ -1,2 +1,3 @@
 pub mod Computing
 pub mod Lines
+pub mod Words
