@@ -42,6 +42,36 @@ line-cases P r named begun alone =
     (chosen P (eqb (r .kind) stepKind) _ _ (named (ascii "step") (unfold isWord each ascii upTo in refl) (unfold ascii upTo in omega arith))
     (chosen P (eqb (r .kind) cancelKind) _ _ (named (ascii "cancel") (unfold isWord each ascii upTo in refl) (unfold ascii upTo in omega arith)) alone)))
 
+-- ---- the line of a record, by its kind
+module _ (r : Record) where
+  -- a table
+  pub line-of-table : eqb (r .kind) tableKind ≡ true → recordLine r ≡ ascii "table" ++ spaced (r .thread ∷ [])
+  unfolding recordLine
+  line-of-table e = rw e refl
+
+  module _ (no-table : eqb (r .kind) tableKind ≡ false) where
+    -- a begin
+    pub line-of-begin : eqb (r .kind) beginKind ≡ true → recordLine r ≡ ascii "begin" ++ spaced (r .thread ∷ []) ++ sendText (r .op .send) ++ receiveText (r .op .receive)
+    unfolding recordLine
+    line-of-begin e = rw (no-table, e) refl
+
+    module _ (no-begin : eqb (r .kind) beginKind ≡ false) where
+      -- a step
+      pub line-of-step : eqb (r .kind) stepKind ≡ true → recordLine r ≡ ascii "step" ++ spaced (r .thread ∷ [])
+      unfolding recordLine
+      line-of-step e = rw (no-table, no-begin, e) refl
+
+      module _ (no-step : eqb (r .kind) stepKind ≡ false) where
+        -- a cancel
+        pub line-of-cancel : eqb (r .kind) cancelKind ≡ true → recordLine r ≡ ascii "cancel" ++ spaced (r .thread ∷ [])
+        unfolding recordLine
+        line-of-cancel e = rw (no-table, no-begin, no-step, e) refl
+
+        -- a tick
+        pub line-of-tick : eqb (r .kind) cancelKind ≡ false → recordLine r ≡ ascii "tick"
+        unfolding recordLine
+        line-of-tick e = rw (no-table, no-begin, no-step, e) refl
+
 -- ---- the parts of a begin
 -- a part that may be missing
 apart-cond : (there : Bool) (text : List ℕ) (words : List (List ℕ)) → text ≡ apart words → cond there text [] ≡ apart (cond there words [])

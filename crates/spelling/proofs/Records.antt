@@ -27,7 +27,7 @@ use Rattle.spelling.proofs.Texts.{isWord, areWords, apart}
 use Rattle.spelling.proofs.Numbers.{words-decimal}
 use Rattle.spelling.proofs.Parts.{parts-read}
 use Rattle.spelling.proofs.Begins.{begin-tidy}
-use Rattle.spelling.proofs.Lines.{thread-line, beginWords, begin-line, begin-words, line-short}
+use Rattle.spelling.proofs.Lines.{line-of-table, line-of-begin, line-of-step, line-of-cancel, line-of-tick, thread-line, beginWords, begin-line, begin-words, line-short}
 use Rattle.spelling.proofs.Rows.{command-named, table-read, step-read, cancel-read, begin-read, tick-read}
 
 -- ---- what is asked for
@@ -90,41 +90,41 @@ module _ (first : Bool) (r : Record) (fits : FitsRecord r) (rules : lawfulRecord
 
   -- a table
   table-back : eqb (r .kind) tableKind ≡ true → recordsOf first (commandOf (recordLine r)) ≡ some (r ∷ [])
-  unfolding recordLine isWord each ascii upTo
-  table-back e = thread-back tableKind (ascii "table") e refl refl (rw e refl) refl (table-read (r .thread) (fits .thread))
+  unfolding isWord each ascii upTo
+  table-back e = thread-back tableKind (ascii "table") e refl refl (line-of-table r e) refl (table-read (r .thread) (fits .thread))
 
   module _ (no-table : eqb (r .kind) tableKind ≡ false) where
     -- a begin
     begin-back : eqb (r .kind) beginKind ≡ true → recordsOf first (commandOf (recordLine r)) ≡ some (r ∷ [])
-    unfolding recordLine areWords isWord each ascii upTo
+    unfolding areWords isWord each ascii upTo
     begin-back e =
         let tidy = begin-tidy 0x4C 0x34 (r .kind) (r .thread) (r .op) (fits .op) (begin-lawful e) in
         asked-back beginKind (r .op) e refl refl
         (said-back (ascii "begin") (beginWords (r .thread) (r .op .send) (r .op .receive)) (asked beginKind (r .thread ∷ []) (r .op))
-        (rw (no-table, e) (begin-line (r .thread) (r .op .send) (r .op .receive) (ascii "begin")))
+        (line-of-begin r no-table e ∙ begin-line (r .thread) (r .op .send) (r .op .receive) (ascii "begin"))
         (begin-words (r .thread) (r .op .send) (r .op .receive))
         (begin-read (r .thread) (fits .thread) _ (r .op) (parts-read (r .op) (fits .op) tidy)))
 
     module _ (no-begin : eqb (r .kind) beginKind ≡ false) where
       -- a step
       step-back : eqb (r .kind) stepKind ≡ true → recordsOf first (commandOf (recordLine r)) ≡ some (r ∷ [])
-      unfolding recordLine isWord each ascii upTo
-      step-back e = thread-back stepKind (ascii "step") e refl refl (rw (no-table, no-begin, e) refl) refl (step-read (r .thread) (fits .thread))
+      unfolding isWord each ascii upTo
+      step-back e = thread-back stepKind (ascii "step") e refl refl (line-of-step r no-table no-begin e) refl (step-read (r .thread) (fits .thread))
 
       module _ (no-step : eqb (r .kind) stepKind ≡ false) where
         -- a cancel
         cancel-back : eqb (r .kind) cancelKind ≡ true → recordsOf first (commandOf (recordLine r)) ≡ some (r ∷ [])
-        unfolding recordLine isWord each ascii upTo
-        cancel-back e = thread-back cancelKind (ascii "cancel") e refl refl (rw (no-table, no-begin, no-step, e) refl) refl (cancel-read (r .thread) (fits .thread))
+        unfolding isWord each ascii upTo
+        cancel-back e = thread-back cancelKind (ascii "cancel") e refl refl (line-of-cancel r no-table no-begin no-step e) refl (cancel-read (r .thread) (fits .thread))
 
         -- a tick
         tick-back : eqb (r .kind) cancelKind ≡ false → recordsOf first (commandOf (recordLine r)) ≡ some (r ∷ [])
-        unfolding recordLine areWords isWord each apart ascii upTo
+        unfolding areWords isWord each apart ascii upTo
         tick-back no-cancel =
             let k : r .kind ≡ tickKind = last-kind no-cancel in
             let same : _≡_ {A = Record} (record { kind = tickKind; thread = 0; op = noOperation }) r =
             λ i. record { kind = sym k i; thread = sym (tick-thread (eq-eqb (r .kind) tickKind k)) i; op = no-operation no-begin i } in
-            ap (recordsOf first) (said-back (ascii "tick") [] (asked tickKind [] noOperation) (rw (no-table, no-begin, no-step, no-cancel) refl) refl tick-read)
+            ap (recordsOf first) (said-back (ascii "tick") [] (asked tickKind [] noOperation) (line-of-tick r no-table no-begin no-step no-cancel) refl tick-read)
             ∙ tick-asked first (ap (lawfulRecord first) same ∙ rules)
             ∙ ap {B = Option (List Record)} (λ (q : Record). some (q ∷ [])) same
           where
