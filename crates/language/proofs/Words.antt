@@ -11,14 +11,10 @@ use lib.ListN.{length, take, drop, getD}
 use borrow.Author.Tests.{ne-eqb, not-true, leb-true, leb-false}
 use Rattle.model.specs.Schedule.{isEmpty}
 use Rattle.model.proofs.Laws.{by, and-left, and-right, and-made}
+use Rattle.language.specs.Runs.{each, solid, unbroken, lastLine}
 use Rattle.language.specs.Words.{joined, newline, lines, withoutReturn, isBlank, startsWord, words, sameWord, isDigit, allDigits, isNumber, grown, value}
 
 -- ---- a test of every byte
--- it holds of each
-unfoldable pub each : (ℕ → Bool) → List ℕ → Bool
-each test [] = true
-each test (byte ∷ line) = test byte && each test line
-
 module _ (test : ℕ → Bool) where
   -- it holds of none
   pub each-none : each test [] ≡ true
@@ -42,10 +38,6 @@ module _ (test : ℕ → Bool) where
   each-more (first ∷ line) byte e t = and-made (test first) _ (and-left _ _ e) (each-more line byte (and-right (test first) _ e) t)
 
 -- ---- words
--- no byte is a blank
-abbrev pub solid : List ℕ → Bool
-solid word = each (λ byte. not (isBlank byte)) word
-
 -- there are no words where there is nothing
 pub words-none : words [] ≡ []
 unfolding words
@@ -83,15 +75,6 @@ words-word (byte ∷ next ∷ word) rest e s b =
     (words-word (next ∷ word) rest refl later b)
 
 -- ---- lines
--- no byte ends a line
-abbrev pub unbroken : List ℕ → Bool
-unbroken line = each (λ byte. not (eqb byte newline)) line
-
--- the last line of an input, where it ends with the input
-unfoldable pub lastLine : List ℕ → List (List ℕ)
-lastLine [] = []
-lastLine (byte ∷ line) = (byte ∷ line) ∷ []
-
 -- a byte in front of the first line
 lines-byte : (byte : ℕ) (input line : List ℕ) (later : List (List ℕ)) → not (eqb byte newline) ≡ true → lines input ≡ line ∷ later → lines (byte ∷ input) ≡ (byte ∷ line) ∷ later
 unfolding lines joined

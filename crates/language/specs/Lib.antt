@@ -1,4 +1,5 @@
 pub mod Words
+pub mod Runs
 pub mod Grammar
 pub mod Commands
 pub mod RecordText

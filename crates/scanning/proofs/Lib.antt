@@ -1,0 +1,3 @@
+pub mod Compared
+pub mod Numbers
+pub mod Runs
