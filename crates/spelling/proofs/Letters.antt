@@ -9,7 +9,7 @@ use borrow.Author.Tests.{le-ltb}
 use Rattle.model.specs.Refusals.{firstRefusal, unless}
 use Rattle.model.specs.Bondtrace.{decimal}
 use Rattle.language.specs.Grammar.{largest, least, takesSign}
-use Rattle.language.specs.Commands.{isNegative, digitsOf, wrongNumber, kept, reached, readNumber}
+use Rattle.language.specs.Commands.{isNegative, digitsOf, wrongDigits, wrongNumber, kept, reached, readNumber}
 use Rattle.spelling.proofs.Numbers.{value-decimal, number-decimal}
 
 -- ---- a letter that takes no sign
@@ -21,7 +21,7 @@ module _ (letter : ℕ) (unsigned : takesSign letter ≡ false) where
 
   -- a number that is in range is not wrong
   pub not-wrong : (n : ℕ) → n ≤ largest letter → least letter ≤ n → wrongNumber letter (decimal n) ≡ 0
-  unfolding wrongNumber firstRefusal
+  unfolding wrongNumber wrongDigits firstRefusal
   not-wrong n low high = rw (digits-all (decimal n), number-decimal n, value-decimal n, le-ltb (largest letter) n low, le-ltb n (least letter) high) refl
 
   -- the number itself is kept of it

@@ -19,7 +19,7 @@ use Rattle.model.specs.Bondtrace.{ascii, decimal, spaced}
 use Rattle.model.proofs.Laws.{length-up-to}
 use Rattle.laws.proofs.Digits.{spaced-short}
 use Rattle.language.specs.RecordText.{sentWords, sendText, receiveText, recordLine}
-use Rattle.language.proofs.Words.{each}
+use Rattle.language.specs.Runs.{each}
 use Rattle.roundtrip.specs.Fits.{AllUnder, FitsOperation}
 use Rattle.roundtrip.proofs.Lists.{cons-under, nil-under, up-to-under}
 use Rattle.spelling.specs.Lengths.{longestLine, LineShort}

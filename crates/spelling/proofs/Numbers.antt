@@ -11,7 +11,7 @@ use Rattle.model.specs.Lists.{concat, upTo}
 use Rattle.model.specs.Bondtrace.{ascii, digit, digits, decimal, spaced}
 use Rattle.model.proofs.Laws.{by, and-left, and-right, and-made}
 use Rattle.language.specs.Words.{sameWord, isDigit, allDigits, isNumber, grown, value}
-use Rattle.language.proofs.Words.{each}
+use Rattle.language.specs.Runs.{each}
 use Rattle.spelling.proofs.Texts.{isWord, areWords, apart}
 
 -- ---- the value

@@ -19,7 +19,7 @@ use Rattle.model.specs.Bondtrace.{ascii, decimal, spaced}
 use Rattle.model.proofs.Laws.{by, implies-read, all-of-read, and-made}
 use Rattle.language.specs.Commands.{Command, asked, fromWords, commandOf}
 use Rattle.language.specs.RecordText.{recordLine, threadsOf, recordsAsked, lawfulRow, recordsOf}
-use Rattle.language.proofs.Words.{each}
+use Rattle.language.specs.Runs.{each}
 use Rattle.roundtrip.specs.Fits.{FitsRecord}
 use Rattle.roundtrip.proofs.Records.{bytes-lawful, record-read}
 use Rattle.spelling.specs.Respelled.{RecordRespelled}

@@ -17,7 +17,8 @@ use Rattle.language.specs.Words.{newline, lines}
 use Rattle.language.specs.Commands.{Command, skipped, wrong, asked, commandOf}
 use Rattle.language.specs.RecordText.{sendText, receiveText, recordLine, recordText, recordsAsked, lawfulRow, recordsOf}
 use Rattle.language.specs.ScheduleText.{recordsText, faultText, totext, TextRead, firstAfter, readThen, readLines, readText, tobytes}
-use Rattle.language.proofs.Words.{each, lines-line}
+use Rattle.language.specs.Runs.{each}
+use Rattle.language.proofs.Words.{lines-line}
 use Rattle.roundtrip.specs.Fits.{AllFit}
 use Rattle.roundtrip.specs.WholeSchedule.{Complete, LawfulSoFar}
 use Rattle.roundtrip.proofs.WholeSchedule.{schedule-written-read}

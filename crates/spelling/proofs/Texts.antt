@@ -9,7 +9,8 @@ use borrow.Author.Tests.{leb-true, le-leb, ne-eqb, not-true}
 use Rattle.model.specs.Schedule.{isEmpty}
 use Rattle.model.proofs.Laws.{and-left, and-right, and-made}
 use Rattle.language.specs.Words.{newline, withoutReturn, isBlank, startsWord, words}
-use Rattle.language.proofs.Words.{each, each-first, each-rest, unbroken, solid, words-none, words-blank, words-word}
+use Rattle.language.specs.Runs.{each, unbroken, solid}
+use Rattle.language.proofs.Words.{each-first, each-rest, words-none, words-blank, words-word}
 
 -- ---- a test of every byte
 -- it holds of the bytes of two runs, one after the other
