@@ -69,15 +69,18 @@ isNegative letter word = takesSign letter && eqb (getD word 0 0) (code "-")
 unfoldable pub digitsOf : ℕ → List ℕ → List ℕ
 digitsOf letter word = cond (isNegative letter word) (drop 1 word) word
 
--- the reason why a word is not such a number, or 0
-unfoldable pub wrongNumber : ℕ → List ℕ → ℕ
-wrongNumber letter word =
-    let digits = digitsOf letter word in firstRefusal (
+-- the reason why digits are not such a number, or 0
+unfoldable pub wrongDigits : ℕ → List ℕ → ℕ
+wrongDigits letter digits = firstRefusal (
     record { when = not (isNumber digits); number = notNumber }
     ∷ record { when = ltb (largest letter) (value digits); number = tooLarge }
     ∷ record { when = ltb (value digits) (least letter); number = tooSmall }
     ∷ []
     )
+
+-- the reason why a word is not such a number, or 0
+unfoldable pub wrongNumber : ℕ → List ℕ → ℕ
+wrongNumber letter word = wrongDigits letter (digitsOf letter word)
 
 -- what is kept of a number: where it may have a sign, 1 for a `-` and 0 for none, and then the number without it
 unfoldable pub kept : ℕ → List ℕ → List ℕ

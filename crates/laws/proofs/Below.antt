@@ -1,14 +1,14 @@
 -- Laws of the values of a function, and of a test, at each number below a bound. None is about messages.
 use mathlib.Core.Path.{_≡_, refl, sym, _∙_}
 use mathlib.Core.Bool.{Bool, true, false, false≢true}
-use mathlib.Core.List.{List}
+use mathlib.Core.List.{List, [], _∷_}
 use Prim.Native.Nat.{ℕ, zero, suc, _+_, _≤_, _<_}
 use native.Mathlib.Numerals.{add-one}
 use native.Mathlib.Omega.{arith}
-use lib.ListN.{length, getD, take}
-use lib.Seq.{take-suc}
+use lib.ListN.{length, getD, take, List·getD-append}
+use lib.Seq.{take-suc, getD-at}
 use Rattle.model.specs.Lists.{allBelow, upTo}
-use Rattle.model.proofs.Laws.{by, and-made, all-below-read}
+use Rattle.model.proofs.Laws.{by, same?, and-made, all-below-read, length-up-to}
 
 -- ---- the list of a function's values below a bound
 -- a list that is f at each of its first k places starts with f's first k values
@@ -16,6 +16,14 @@ pub take-up-to {ℓ} : {A : Type ℓ} (l : List A) (d : A) (k : ℕ) (f : ℕ �
 unfolding upTo
 take-up-to l d zero f long h = refl
 take-up-to l d (suc k) f long h = rw (take-suc l k d (omega arith), take-up-to l d k f (omega arith) (λ j i. h j (omega arith)), h k (omega arith)) refl
+
+-- a list of the values below m has each of them at its place
+pub read-up-to {ℓ} : {A : Type ℓ} (m : ℕ) (f : ℕ → A) (d : A) (i : ℕ) → i < m → getD (upTo m f) i d ≡ f i
+unfolding upTo
+read-up-to zero f d i l = absurd (omega arith)
+read-up-to (suc m) f d i l = same? i m
+    (λ e. rw e (getD-at (upTo m f) (f m) [] d m (length-up-to m f)))
+    (λ e. List·getD-append (upTo m f) (f m ∷ []) d i (omega (arith, length-up-to m f)) ∙ read-up-to m f d i (omega arith))
 
 -- functions with the same values below n have the same list of values below n
 pub up-to-alike : (n : ℕ) (f g : ℕ → ℕ) → ((i : ℕ) → i < n → f i ≡ g i) → upTo n f ≡ upTo n g

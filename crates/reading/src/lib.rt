@@ -15,7 +15,7 @@ use model::Record;
 use model::SendPart;
 
 // The kind of the record that makes a table, the first of a schedule.
-const TABLE: u8 = 0;
+pub const TABLE: u8 = 0;
 
 // The kind of a begin.
 pub const BEGIN: u8 = 1;

@@ -2,11 +2,11 @@
 use mathlib.Core.Path.{_≡_, refl, sym, _∙_}
 use mathlib.Core.Logic.{_≢_}
 use mathlib.Core.List.{List, [], _∷_, _++_, append-nil}
-use Prim.Native.Nat.{ℕ, zero, suc, _+_, _≤_, _<_}
+use Prim.Native.Nat.{ℕ, suc, _+_, _≤_, _<_}
 use native.Mathlib.Omega.{arith}
 use native.Mathlib.Numerals.{add-one}
-use lib.ListN.{length, getD, drop, set, length-append, length-drop, drop-of-length-le, List·getD-append}
-use lib.Seq.{drop-cons, append-snoc, set-at, getD-at}
+use lib.ListN.{length, getD, drop, set, length-append, length-drop, drop-of-length-le}
+use lib.Seq.{drop-cons, append-snoc, set-at}
 use lib.Dec.{eqb}
 use borrow.Author.Tests.{eqb-true, not-false}
 use Rattle.model.specs.declared.Outcome.{Outcome}
@@ -16,9 +16,10 @@ use Rattle.model.specs.Lists.{upTo}
 use Rattle.model.specs.Threads.{at}
 use Rattle.model.specs.WellFormed.{sizeInRange}
 use Rattle.model.specs.Refusals.{unless, badSize, notWellFormed, badLength, reportRefusal, tableRows}
-use Rattle.model.proofs.Laws.{same?, length-up-to}
+use Rattle.model.proofs.Laws.{length-up-to}
 use Rattle.model.proofs.Numbers.{size-read}
 use Rattle.laws.proofs.Lists.{zero-or-not}
+use Rattle.laws.proofs.Below.{read-up-to}
 use Rattle.laws.proofs.Rows.{none-holds}
 use Rattle.report.specs.Report.{allOutcomes, Reported}
 
@@ -54,14 +55,6 @@ unfolding filled
 filled-all t i records long = rw (drop-of-length-le records {i = i} long) (append-nil (upTo i (outcomeOf t)))
 
 -- ---- a report
--- a list of the values below m has each of them at its place
-read-up-to : (m : ℕ) (f : ℕ → Outcome) (d : Outcome) (i : ℕ) → i < m → getD (upTo m f) i d ≡ f i
-unfolding upTo
-read-up-to zero f d i l = absurd (omega arith)
-read-up-to (suc m) f d i l = same? i m
-    (λ e. rw e (getD-at (upTo m f) (f m) [] d m (length-up-to m f)))
-    (λ e. List·getD-append (upTo m f) (f m ∷ []) d i (omega (arith, length-up-to m f)) ∙ read-up-to m f d i (omega arith))
-
 -- a report has the outcome of each thread
 pub read-outcome : (t : Table) (d : Outcome) (i : ℕ) → i < 32 → getD (allOutcomes t) i d ≡ outcomeOf t i
 unfolding allOutcomes

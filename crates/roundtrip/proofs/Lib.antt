@@ -6,3 +6,4 @@ pub mod OneRecord
 pub mod Reading
 pub mod Ends
 pub mod WholeSchedule
+pub mod Typed

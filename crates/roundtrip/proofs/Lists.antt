@@ -19,7 +19,7 @@ module _ (bound : ℕ) where
   append-under (a ∷ l) m u v (suc i) = append-under l m (λ j. u (suc j)) v i
 
   -- one more in front
-  cons-under : (a : ℕ) (l : List ℕ) → a < bound → AllUnder bound l → AllUnder bound (a ∷ l)
+  pub cons-under : (a : ℕ) (l : List ℕ) → a < bound → AllUnder bound l → AllUnder bound (a ∷ l)
   cons-under a l h u zero = h
   cons-under a l h u (suc i) = u i
 

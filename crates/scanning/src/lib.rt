@@ -62,7 +62,7 @@ fn blanks_end(line: &[u8], from: usize) -> usize
 }
 
 // The place of the first blank from a place on, or the end.
-fn word_end(line: &[u8], from: usize) -> usize
+pub fn word_end(line: &[u8], from: usize) -> usize
     requires { ⌜ from ≤ length (now line) ⌝ }
     ensures { λ r. ⌜ Run ofWord (now (line .entry)) from r ⌝ }
 {

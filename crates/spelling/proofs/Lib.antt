@@ -1,0 +1,9 @@
+pub mod Texts
+pub mod Numbers
+pub mod Letters
+pub mod Parts
+pub mod Begins
+pub mod Lines
+pub mod Rows
+pub mod Records
+pub mod Schedules
