@@ -44,9 +44,9 @@ tooMuch = 8
 abbrev pub tooLong : ℕ
 tooLong = 9
 
--- a reason in plain words
-unfoldable pub reasonText : ℕ → List ℕ
-reasonText reason = getD (
+-- the reasons in plain words
+unfoldable pub reasons : List (List ℕ)
+reasons =
     ascii "no error"
     ∷ ascii "no such command"
     ∷ ascii "no such field"
@@ -58,7 +58,10 @@ reasonText reason = getD (
     ∷ ascii "too much on the line"
     ∷ ascii "line too long"
     ∷ []
-    ) reason []
+
+-- one of them
+unfoldable pub reasonText : ℕ → List ℕ
+reasonText reason = getD reasons reason []
 
 -- ---- numbers, each by its letter of the grammar
 -- a number with a sign where one is allowed

@@ -11,7 +11,7 @@ pub struct Supply {
 }
 
 // Moves n bytes from a place down to the front.
-fn move_down(buffer: &mut [u8], start: usize, n: usize)
+pub fn move_down(buffer: &mut [u8], start: usize, n: usize)
     requires { ⌜ start + n ≤ length (now buffer) ⌝ }
     ensures { λ _. ⌜ length (now (buffer .exit)) ≡ length (now (buffer .entry)) ⌝ }
     ensures { λ _. ⌜ take n (now (buffer .exit)) ≡ take n (drop start (now (buffer .entry))) ⌝ }
