@@ -1,15 +1,17 @@
 -- Lines and the commands that they are, worked out from the definitions: for each rule one that keeps it and one that does not.
 use mathlib.Core.Bool.{true}
 use mathlib.Core.Path.{_≡_, refl}
-use mathlib.Core.List.{List, [], _∷_}
+use mathlib.Core.List.{List, [], _∷_, _++_}
 use Prim.Native.Nat.{ℕ}
 use Prim.Native.String.{String}
+use lib.ListN.{replicate}
 use Rattle.model.specs.declared.Receive.the-variants.{Absent, Open, Closed}
 use Rattle.model.specs.declared.Operation.{Operation}
 use Rattle.model.specs.declared.Receive.{Receive}
 use Rattle.model.specs.Threads.{noOperation}
+use Rattle.model.specs.Lists.{concat}
 use Rattle.model.specs.Bondtrace.{ascii}
-use Rattle.language.specs.Commands.{Command, skipped, wrong, asked, commandOf, noCommand, noField, noPart, missing, notNumber, tooLarge, tooSmall, tooMuch}
+use Rattle.language.specs.Commands.{Command, skipped, wrong, asked, commandOf, noCommand, noField, noPart, missing, notNumber, tooLarge, tooSmall, tooMuch, tooLong}
 use Rattle.language.proofs.Computing.{computing}
 
 -- a line, and the command that it is
@@ -119,3 +121,20 @@ lines-read field-missing = refl
 lines-read no-field = refl
 lines-read thread-missing = refl
 lines-read thread-past-the-array = refl
+
+-- ---- lines that are too long to stand in a row
+-- "Words past the eighth are counted, to any number (300 words are refused 9 and do not wrap round), and not kept": the count stays at 255
+pub many-words : commandOf (ascii "begin 0 send 1 15" ++ concat (replicate 300 (ascii " 7")))
+    ≡ asked 1 (0 ∷ []) (record { send = record { present = true; target = 1; count = 255; time = 15; words = replicate 8 7 }; receive = Absent })
+unfolding computing
+many-words = refl
+
+-- a line of 4,095 bytes is read
+pub long-enough : commandOf (ascii "#" ++ replicate 4094 32) ≡ skipped
+unfolding computing
+long-enough = refl
+
+-- "line too long (above 4,095 bytes)"
+pub too-long : commandOf (ascii "#" ++ replicate 4095 32) ≡ wrong tooLong []
+unfolding computing
+too-long = refl

@@ -33,7 +33,7 @@ all-read first [] fits rules = refl
 all-read first (r ∷ records) fits rules = λ i. record-read first r (rules .0) (fits .0) i ∷ all-read false records (fits .1) (rules .1) i
 
 -- records of a lawful schedule are written as one
-schedule-lawful : (records : List Record) → LawfulRecords records → LawfulSchedule (encodeAll records)
+pub schedule-lawful : (records : List Record) → LawfulRecords records → LawfulSchedule (encodeAll records)
 unfolding encodeAll
 schedule-lawful records rules = record { records = map encode records; whole = refl; lawfully = all-bytes-lawful true records rules }
 

@@ -1,5 +1,6 @@
 -- The text of a lawful schedule is read back, and what is read from any text is lawful.
 use mathlib.Core.Path.{_≡_, refl, ap, _∙_}
+use mathlib.Core.Logic.{_⊎_, inl, inr}
 use mathlib.Core.Bool.{Bool, true, false, cond}
 use mathlib.Core.List.{List, [], _∷_, _++_, map, append-assoc, append-nil}
 use mathlib.Core.Option.{none, some}
@@ -10,7 +11,7 @@ use Rattle.model.specs.declared.Record.{Record}
 use Rattle.model.specs.Lists.{concat, upTo}
 use Rattle.model.specs.RecordBytes.{tickKind}
 use Rattle.model.specs.Encoding.{lawfulRecord}
-use Rattle.model.specs.Schedule.{AllLawful, decodeAll, encodeAll}
+use Rattle.model.specs.Schedule.{AllLawful, LawfulSchedule, decodeAll, encodeAll}
 use Rattle.model.specs.Bondtrace.{ascii, decimal, spaced}
 use Rattle.model.proofs.Laws.{and-left, and-right, and-made}
 use Rattle.language.specs.Words.{newline, lines}
@@ -21,8 +22,8 @@ use Rattle.language.specs.Runs.{each}
 use Rattle.language.proofs.Words.{lines-line}
 use Rattle.roundtrip.specs.Fits.{AllFit}
 use Rattle.roundtrip.specs.WholeSchedule.{Complete, LawfulSoFar}
-use Rattle.roundtrip.proofs.WholeSchedule.{schedule-written-read}
-use Rattle.spelling.specs.Respelled.{ScheduleRespelled, BytesRespelled, LawfulWritten}
+use Rattle.roundtrip.proofs.WholeSchedule.{schedule-lawful, schedule-written-read}
+use Rattle.spelling.specs.Respelled.{ScheduleRespelled, BytesRespelled, LawfulWritten, LawfulBytesWritten}
 use Rattle.spelling.proofs.Texts.{isWord, areWords, printed, printed-unbroken, printed-named}
 use Rattle.spelling.proofs.Numbers.{words-decimal}
 use Rattle.spelling.proofs.Lines.{line-cases, thread-line, beginWords, begin-line, begin-words}
@@ -117,3 +118,14 @@ lines-lawful first n (line ∷ later) = line-before first n (commandOf line) _ (
 pub lawful-written : LawfulWritten
 unfolding readText
 lawful-written text = lines-lawful true 1 (lines text)
+
+-- lawful records are written as nothing or as a lawful schedule
+records-written : (records : List Record) → LawfulSoFar true records → (encodeAll records ≡ []) ⊎ LawfulSchedule (encodeAll records)
+unfolding encodeAll concat
+records-written [] rules = inl refl
+records-written (r ∷ records) rules = inr (schedule-lawful (r ∷ records) rules)
+
+-- so are those of any text
+pub lawful-bytes-written : LawfulBytesWritten
+unfolding tobytes
+lawful-bytes-written text = records-written (readText text .records) (lawful-written text)

@@ -1,5 +1,6 @@
 -- The text of schedules: what is lawful survives being printed and read, and what is read from any text is lawful.
 use mathlib.Core.Path.{_≡_}
+use mathlib.Core.Logic.{_⊎_}
 use mathlib.Core.Bool.{Bool, true}
 use mathlib.Core.List.{List, [], _∷_}
 use mathlib.Core.Option.{none, some}
@@ -30,6 +31,10 @@ pub record TurnsBack (bytes : List ℕ) : Type 0 where
 abbrev pub BytesRespelled : Type 0
 BytesRespelled = (bytes : List ℕ) → Bytes bytes → LawfulSchedule bytes → TurnsBack bytes
 
--- the records that are read from any text are lawful as far as they go, so no unlawful record is ever written
+-- the records that are read from any text are lawful as far as they go
 abbrev pub LawfulWritten : Type 0
 LawfulWritten = (text : List ℕ) → LawfulSoFar true (readText text .records)
+
+-- so the bytes that are written for any text are none, or those of a lawful schedule
+abbrev pub LawfulBytesWritten : Type 0
+LawfulBytesWritten = (text : List ℕ) → (tobytes text ≡ []) ⊎ LawfulSchedule (tobytes text)
