@@ -8,7 +8,7 @@ use native.Mathlib.Omega.{arith}
 use lib.Dec.{eqb, ltb}
 use lib.ListN.{length, take, drop, getD, length-take, length-drop, take-append-drop, drop-of-length-le}
 use lib.Seq.{take-all, take-length, take-suc, drop-cons, drop-drop, getD-drop}
-use borrow.Author.Tests.{eqb-true, eqb-false, ltb-true, ltb-false, not-false}
+use borrow.Author.Tests.{eqb-true, eqb-false, eq-eqb, ne-eqb, ltb-true, ltb-false, not-false}
 use Rattle.model.specs.Schedule.{isEmpty}
 use Rattle.model.proofs.Laws.{by}
 use Rattle.laws.proofs.Records.{not-empty}
@@ -95,6 +95,15 @@ module _ (line : List ℕ) (from start end : ℕ) (blanks : Run isBlank line fro
     within = word .passing .within;
     found = by (eqb start end) (λ e. rw e (skipped ∙ at-end (eqb-true _ _ e))) (λ e. rw e (skipped ∙ first-word (eqb-false _ _ e)));
   }
+
+module _ (line : List ℕ) (from start end : ℕ) (f : Found line from start end) where
+  -- no word is found
+  pub found-none : start ≡ end → words (drop from line) ≡ []
+  found-none e = rw (eq-eqb start end e) at (f .found)
+
+  -- or one is
+  pub found-word : (start ≡ end → ⊥) → words (drop from line) ≡ between start end line ∷ words (drop end line)
+  found-word d = rw (ne-eqb start end d) at (f .found)
 
 -- ---- lines
 module _ (bytes : List ℕ) (from stop : ℕ) (r : Run ofLine bytes from stop) where
