@@ -1,19 +1,18 @@
 -- A number by its letter: bounds of its largest and its least, and what is found of the digits of a word.
-use mathlib.Core.Path.{_≡_, refl, sym, ap, _∙_}
-use mathlib.Core.Bool.{Bool, true, false, not, cond}
+use mathlib.Core.Path.{_≡_, refl, sym, _∙_}
+use mathlib.Core.Bool.{Bool, true, false, cond}
 use mathlib.Core.List.{List, [], _∷_}
-use Prim.Native.Nat.{ℕ, suc, _-_, _≤_, _<_, min}
-use Prim.Native.Char.{code}
+use Prim.Native.Nat.{ℕ, _-_, _≤_, _<_, min}
 use native.Mathlib.Omega.{arith}
-use lib.Dec.{eqb, ltb, lit<, lit≤}
-use lib.ListN.{length, drop, getD, length-drop}
+use lib.Dec.{ltb, lit<}
+use lib.ListN.{length, drop, length-drop}
 use lib.Seq.{take-all}
 use borrow.Author.Tests.{lt-ltb, le-ltb}
 use Rattle.model.specs.Refusals.{firstRefusal}
 use Rattle.model.proofs.Laws.{and-right}
-use Rattle.language.specs.Words.{isNumber, value}
+use Rattle.language.specs.Words.{value}
 use Rattle.language.specs.Grammar.{largest, least, takesSign, mostMore}
-use Rattle.language.specs.Commands.{isNegative, digitsOf, wrongDigits}
+use Rattle.language.specs.Commands.{notNumber, tooLarge, tooSmall, isNegative, digitsOf, wrongDigits}
 use Rattle.scanning.specs.Scanned.{between, cap, NumberRead}
 use Rattle.commands.specs.Standing.{Measured}
 
@@ -58,7 +57,7 @@ digits-whole letter word e = rw e
 -- ---- digits
 module _ (letter : ℕ) (word : List ℕ) {digits : Bool} {number : ℕ} (n : NumberRead word digits number) where
   -- what is no number
-  pub measured-none : digits ≡ false → Measured letter word (record { reason = 5; value = 0 })
+  pub measured-none : digits ≡ false → Measured letter word (record { reason = notNumber; value = 0 })
   unfolding wrongDigits firstRefusal
   measured-none e = record { reason = rw (sym (n .is) ∙ e) refl; which = λ z. absurd (omega arith) }
 
@@ -68,7 +67,7 @@ module _ (letter : ℕ) (word : List ℕ) {digits : Bool} {number : ℕ} (n : Nu
     read = n .which (sym (n .is) ∙ e)
 
     -- one that is too large
-    pub measured-large : largest letter < number → Measured letter word (record { reason = 6; value = 0 })
+    pub measured-large : largest letter < number → Measured letter word (record { reason = tooLarge; value = 0 })
     unfolding wrongDigits firstRefusal
     measured-large l = record {
       reason = rw (sym (n .is) ∙ e, lt-ltb (largest letter) (value word) (omega (arith, read))) refl;
@@ -85,7 +84,7 @@ module _ (letter : ℕ) (word : List ℕ) {digits : Bool} {number : ℕ} (n : Nu
       not-large = le-ltb (largest letter) (value word) (rw same l)
 
       -- one that is too small
-      pub measured-small : number < least letter → Measured letter word (record { reason = 7; value = 0 })
+      pub measured-small : number < least letter → Measured letter word (record { reason = tooSmall; value = 0 })
       unfolding wrongDigits firstRefusal
       measured-small s = record {
         reason = rw (sym (n .is) ∙ e, not-large, lt-ltb (value word) (least letter) (rw same s)) refl;

@@ -1,17 +1,17 @@
 -- Numbers read one after the other: what a cursor stands for after each.
 use mathlib.Core.Path.{_≡_, refl, sym, ap, _∙_}
-use mathlib.Core.Bool.{Bool, true, false, cond}
+use mathlib.Core.Bool.{Bool, cond}
 use mathlib.Core.List.{List, [], _∷_, _++_, append-assoc}
 use Prim.Native.Nat.{ℕ, zero, suc, _+_, _-_, _*_, _≤_, _<_}
 use native.Mathlib.Numerals.{add-one}
 use native.Mathlib.Omega.{arith}
 use lib.ListN.{length, take, drop, getD, set, length-set, drop-of-length-le}
-use lib.Seq.{take-suc-set, take-set-le, drop-cons}
+use lib.Seq.{take-suc-set, drop-cons}
 use Rattle.model.specs.Lists.{bit}
 use Rattle.model.specs.Refusals.{unless}
 use Rattle.language.specs.Words.{words, value}
 use Rattle.language.specs.Grammar.{takesSign}
-use Rattle.language.specs.Commands.{isNegative, digitsOf, wrongDigits, wrongNumber, kept, Progress, stopped, reached, readNumber, readNumbers, readMore}
+use Rattle.language.specs.Commands.{missing, tooMuch, isNegative, digitsOf, wrongNumber, kept, Progress, stopped, reached, readNumber, readNumbers, readMore}
 use Rattle.scanning.specs.Scanned.{between, Found}
 use Rattle.scanning.proofs.Runs.{found-none, found-word}
 use Rattle.commands.specs.declared.Cursor.{Cursor}
@@ -117,12 +117,12 @@ module _ (line : List ℕ) (letter : ℕ) (cursor : Cursor) (stands : Stands lin
   module _ (start end : ℕ) (f : Found line (cursor .at) start end) (e : cursor .reason ≡ 0) where
     -- no word is left
     pub number-missing : (numbers : List ℕ) → start ≡ end
-        → Advanced line numbers (readNumber letter (progress line numbers cursor)) (cursor .count + 2) (record { reason = 4; start = start; end = end; at = end; count = cursor .count })
+        → Advanced line numbers (readNumber letter (progress line numbers cursor)) (cursor .count + 2) (record { reason = missing; start = start; end = end; at = end; count = cursor .count })
     unfolding readNumber progress unless
     number-missing numbers s = record {
-      stands = stands-at line cursor start end f e 4 (cursor .count);
+      stands = stands-at line cursor start end f e missing (cursor .count);
       few = omega arith;
-      means = ap (stopped 4) (between-none line start end s) ∙ sym (ap (readNumber letter) (reached-end line cursor start end f e numbers s));
+      means = ap (stopped missing) (between-none line start end s) ∙ sym (ap (readNumber letter) (reached-end line cursor start end f e numbers s));
     }
 
     -- the next word is read
@@ -215,10 +215,10 @@ module _ (line : List ℕ) (letter most : ℕ) where
 
       -- no more may follow
       pub more-full : (start ≡ end → ⊥) → left ≡ 0
-          → Advanced line numbers (readOn letter most p) (count + 2 * most) (record { reason = 8; start = start; end = end; at = end; count = last .count })
+          → Advanced line numbers (readOn letter most p) (count + 2 * most) (record { reason = tooMuch; start = start; end = end; at = end; count = last .count })
       unfolding readOn readMore progress unless
       more-full d z = record {
-        stands = stands-at line last start end f e 8 (last .count);
+        stands = stands-at line last start end f e tooMuch (last .count);
         few = omega (arith, m .few);
         means = sym (ap (readOn letter 0) (reached-word line last start end f e numbers d)) ∙ (rw z at (m .means));
       }

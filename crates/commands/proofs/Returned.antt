@@ -1,11 +1,12 @@
 -- What is returned of a line: which command it stands for, by the row of its first word, the row's numbers, and what stands behind them.
 use mathlib.Core.Path.{_≡_, refl, sym, ap, _∙_}
-use mathlib.Core.Bool.{Bool, true, false, cond}
-use mathlib.Core.List.{List, [], _∷_}
-use Prim.Native.Nat.{ℕ, suc, _+_, _-_, _*_, _≤_, _<_}
+use mathlib.Core.Bool.{cond}
+use mathlib.Core.List.{List, []}
+use Prim.Native.Nat.{ℕ, _+_, _-_, _*_, _≤_, _<_}
+use Prim.Native.Char.{code}
 use native.Mathlib.Omega.{arith}
-use lib.Dec.{eqb, leb}
-use lib.ListN.{length, take, drop, getD, length-take, length-drop}
+use lib.Dec.{eqb}
+use lib.ListN.{length, take, drop, getD}
 use lib.Seq.{take-take, getD-take, getD-drop, length-take-le}
 use borrow.Author.Tests.{eq-eqb, ne-eqb, le-leb, lt-leb}
 use Rattle.model.specs.declared.Operation.{Operation}
@@ -14,7 +15,7 @@ use Rattle.model.specs.Refusals.{unless}
 use Rattle.laws.proofs.Joined.{drop-of-take}
 use Rattle.language.specs.Words.{withoutReturn, words}
 use Rattle.language.specs.Grammar.{grammar, rows, firstField, setRow, findRow, numberLetters, restLetter, mostMore, mostNumbers}
-use Rattle.language.specs.Commands.{Progress, stopped, reached, readNumbers, readMore, Spelled, misspelled, spelled, readParts, Command, skipped, wrong, asked, withParts, complete, readRest, readRow, readField, fromWords, lineLimit, commandOf}
+use Rattle.language.specs.Commands.{noCommand, noField, tooLong, Progress, reached, readNumbers, readParts, Command, skipped, wrong, asked, withParts, complete, readRest, readRow, readField, fromWords, lineLimit, commandOf}
 use Rattle.scanning.specs.Scanned.{between, Found, Shortened}
 use Rattle.scanning.proofs.Runs.{between-length, found-none, found-word}
 use Rattle.commands.specs.declared.Cursor.{Cursor}
@@ -83,7 +84,7 @@ module _ (line numbers : List ℕ) where
 
 -- ---- the numbers of a row
 -- there are at most seven
-pub letters-few : (table : List ℕ) (row start end : ℕ) → Letters row start end → end ≤ length table → length (between start end table) ≤ 7
+pub letters-few : (table : List ℕ) (row start end : ℕ) → Letters row start end → end ≤ length table → length (between start end table) ≤ mostNumbers
 letters-few table row start end l le = rw (between-length table start end (l .ordered) le) (omega (arith, l .few))
 
 -- its letters are those of the grammar
@@ -98,19 +99,19 @@ letters-read line after table p row start end count last t l le a =
 -- ---- the rest of a line
 module _ (row : ℕ) (line numbers : List ℕ) (cursor : Cursor) (e : cursor .reason ≡ 0) (letter : ℕ) (l : letter ≡ restLetter row) where
   -- an operation
-  pub rest-parts : letter ≡ 112 → withParts row (take (cursor .count) numbers) (readParts (words (drop (cursor .at) line))) ≡ readRest row (progress line numbers cursor)
+  pub rest-parts : letter ≡ code "p" → withParts row (take (cursor .count) numbers) (readParts (words (drop (cursor .at) line))) ≡ readRest row (progress line numbers cursor)
   unfolding readRest
-  rest-parts p = rw (progress-reached line numbers cursor e, ← l, eq-eqb letter 112 p)
+  rest-parts p = rw (progress-reached line numbers cursor e, ← l, eq-eqb letter (code "p") p)
 
   -- anything
-  pub rest-asked : (letter ≡ 112 → ⊥) → letter ≡ 97 → asked row (take (cursor .count) numbers) noOperation ≡ readRest row (progress line numbers cursor)
+  pub rest-asked : (letter ≡ code "p" → ⊥) → letter ≡ code "a" → asked row (take (cursor .count) numbers) noOperation ≡ readRest row (progress line numbers cursor)
   unfolding readRest
-  rest-asked p a = rw (progress-reached line numbers cursor e, ← l, ne-eqb letter 112 p, eq-eqb letter 97 a)
+  rest-asked p a = rw (progress-reached line numbers cursor e, ← l, ne-eqb letter (code "p") p, eq-eqb letter (code "a") a)
 
   -- more numbers
-  pub rest-more : (letter ≡ 112 → ⊥) → (letter ≡ 97 → ⊥) → complete row (readOn letter (mostMore letter) (progress line numbers cursor)) ≡ readRest row (progress line numbers cursor)
+  pub rest-more : (letter ≡ code "p" → ⊥) → (letter ≡ code "a" → ⊥) → complete row (readOn letter (mostMore letter) (progress line numbers cursor)) ≡ readRest row (progress line numbers cursor)
   unfolding readRest readOn
-  rest-more p a = rw (progress-reached line numbers cursor e, ← l, ne-eqb letter 112 p, ne-eqb letter 97 a)
+  rest-more p a = rw (progress-reached line numbers cursor e, ← l, ne-eqb letter (code "p") p, ne-eqb letter (code "a") a)
 
 -- ---- a field
 module _ (line numbers : List ℕ) (cursor : Cursor) (start end : ℕ) (f : Found line (cursor .at) start end) (e : cursor .reason ≡ 0) where
@@ -119,37 +120,37 @@ module _ (line numbers : List ℕ) (cursor : Cursor) (start end : ℕ) (f : Foun
   field-place = record { ordered = f .ordered; within = f .within }
 
   -- none is there
-  pub field-none : start ≡ end → Parses line numbers (readField (progress line numbers cursor)) (failing 2 start end)
+  pub field-none : start ≡ end → Parses line numbers (readField (progress line numbers cursor)) (failing noField start end)
   unfolding readField
-  field-none s = rw (reached-end line cursor start end f e numbers s, ← between-none line start end s) (parses-wrong line numbers 2 start end field-place (λ z. omega arith))
+  field-none s = rw (reached-end line cursor start end f e numbers s, ← between-none line start end s) (parses-wrong line numbers noField start end field-place (λ z. omega arith))
 
-  module _ (d : start ≡ end → ⊥) (row : ℕ) (r : row ≡ findRow 12 14 (between start end line)) where
+  module _ (d : start ≡ end → ⊥) (row : ℕ) (r : row ≡ findRow (rows - firstField) firstField (between start end line)) where
     -- the word names none
-    pub field-wrong : row ≡ 26 → Parses line numbers (readField (progress line numbers cursor)) (failing 2 start end)
+    pub field-wrong : row ≡ rows → Parses line numbers (readField (progress line numbers cursor)) (failing noField start end)
     unfolding readField
-    field-wrong z = rw (reached-word line cursor start end f e numbers d, ← r, eq-eqb row 26 z) (parses-wrong line numbers 2 start end field-place (λ n. omega arith))
+    field-wrong z = rw (reached-word line cursor start end f e numbers d, ← r, eq-eqb row rows z) (parses-wrong line numbers noField start end field-place (λ n. omega arith))
 
     -- it names one
-    pub field-row : (row ≡ 26 → ⊥) → readRow row (reached (take (cursor .count) numbers) (words (drop end line))) ≡ readField (progress line numbers cursor)
+    pub field-row : (row ≡ rows → ⊥) → readRow row (reached (take (cursor .count) numbers) (words (drop end line))) ≡ readField (progress line numbers cursor)
     unfolding readField
-    field-row n = rw (reached-word line cursor start end f e numbers d, ← r, ne-eqb row 26 n)
+    field-row n = rw (reached-word line cursor start end f e numbers d, ← r, ne-eqb row rows n)
 
 -- ---- the first word
-module _ (line numbers : List ℕ) (start end : ℕ) (place : Placed line start end) (row : ℕ) (r : row ≡ findRow 14 0 (between start end line)) where
+module _ (line numbers : List ℕ) (start end : ℕ) (place : Placed line start end) (row : ℕ) (r : row ≡ findRow firstField 0 (between start end line)) where
   -- it names no command
-  pub first-none : row ≡ 14 → Parses line numbers (fromFirst (between start end line) (words (drop end line))) (failing 1 start end)
+  pub first-none : row ≡ firstField → Parses line numbers (fromFirst (between start end line) (words (drop end line))) (failing noCommand start end)
   unfolding fromFirst
-  first-none z = rw (← r, eq-eqb row 14 z) (parses-wrong line numbers 1 start end place (λ n. omega arith))
+  first-none z = rw (← r, eq-eqb row firstField z) (parses-wrong line numbers noCommand start end place (λ n. omega arith))
 
   -- it is `set`
-  pub first-set : (row ≡ 14 → ⊥) → row ≡ 13 → readField (readNumbers (numberLetters row) (reached [] (words (drop end line)))) ≡ fromFirst (between start end line) (words (drop end line))
+  pub first-set : (row ≡ firstField → ⊥) → row ≡ setRow → readField (readNumbers (numberLetters row) (reached [] (words (drop end line)))) ≡ fromFirst (between start end line) (words (drop end line))
   unfolding fromFirst
-  first-set n s = rw (← r, ne-eqb row 14 n, eq-eqb row 13 s)
+  first-set n s = rw (← r, ne-eqb row firstField n, eq-eqb row setRow s)
 
   -- it is another
-  pub first-row : (row ≡ 14 → ⊥) → (row ≡ 13 → ⊥) → readRow row (reached [] (words (drop end line))) ≡ fromFirst (between start end line) (words (drop end line))
+  pub first-row : (row ≡ firstField → ⊥) → (row ≡ setRow → ⊥) → readRow row (reached [] (words (drop end line))) ≡ fromFirst (between start end line) (words (drop end line))
   unfolding fromFirst
-  first-row n s = rw (← r, ne-eqb row 14 n, ne-eqb row 13 s)
+  first-row n s = rw (← r, ne-eqb row firstField n, ne-eqb row setRow s)
 
 -- ---- a line
 module _ (line numbers : List ℕ) (start end : ℕ) (f : Found line 0 start end) where
@@ -167,14 +168,14 @@ module _ (line numbers : List ℕ) (start end : ℕ) (f : Found line 0 start end
         getD-take (end - start) (drop start line) 0 0 inside ∙ getD-drop start line 0 0 ∙ ap (λ (k : ℕ). getD line k 0) there
 
     -- it starts with `#`
-    pub line-comment : getD line start 0 ≡ 35 → Parses line numbers (fromWords (words line)) (failing 0 0 0)
+    pub line-comment : getD line start 0 ≡ code "#" → Parses line numbers (fromWords (words line)) (failing 0 0 0)
     unfolding fromWords
-    line-comment h = rw (found-word line 0 start end f d, eq-eqb (getD (between start end line) 0 0) 35 (first-byte ∙ h)) (parses-skipped line numbers)
+    line-comment h = rw (found-word line 0 start end f d, eq-eqb (getD (between start end line) 0 0) (code "#") (first-byte ∙ h)) (parses-skipped line numbers)
 
     -- it does not
-    pub line-first : (getD line start 0 ≡ 35 → ⊥) → fromFirst (between start end line) (words (drop end line)) ≡ fromWords (words line)
+    pub line-first : (getD line start 0 ≡ code "#" → ⊥) → fromFirst (between start end line) (words (drop end line)) ≡ fromWords (words line)
     unfolding fromWords fromFirst
-    line-first h = rw (found-word line 0 start end f d, ne-eqb (getD (between start end line) 0 0) 35 (λ e. h (sym first-byte ∙ e)))
+    line-first h = rw (found-word line 0 start end f d, ne-eqb (getD (between start end line) 0 0) (code "#") (λ e. h (sym first-byte ∙ e)))
 
 -- ---- the whole line
 -- what stands between two places of its front stands there in the line
@@ -187,9 +188,9 @@ module _ (line numbers : List ℕ) (end : ℕ) (s : Shortened line end) where
   front-length = sym (ap length (s .front)) ∙ length-take-le end line (s .within)
 
   -- it is too long
-  pub line-long : lineLimit < end → Parses line numbers (commandOf line) (failing 9 0 0)
+  pub line-long : lineLimit < end → Parses line numbers (commandOf line) (failing tooLong 0 0)
   unfolding commandOf
-  line-long lt = rw (front-length, lt-leb end lineLimit lt) (parses-wrong line numbers 9 0 0 (first-place line numbers) (λ z. omega arith))
+  line-long lt = rw (front-length, lt-leb end lineLimit lt) (parses-wrong line numbers tooLong 0 0 (first-place line numbers) (λ z. omega arith))
 
   -- it is not
   pub line-short : (r : Parsed) → end ≤ lineLimit → Parses (take end line) numbers (fromWords (words (take end line))) r → Parses line numbers (commandOf line) r

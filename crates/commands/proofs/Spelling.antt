@@ -1,13 +1,13 @@
 -- The operation that words spell: what parts stand for, and what their numbers are.
 use mathlib.Core.Path.{_≡_, refl, sym, ap, _∙_}
-use mathlib.Core.Bool.{Bool, true, false, cond}
+use mathlib.Core.Bool.{true, false}
 use mathlib.Core.List.{List, [], _∷_, _++_}
-use Prim.Native.Nat.{ℕ, zero, suc, _+_, _-_, _*_, _%_, _≤_, _<_, min}
+use Prim.Native.Nat.{ℕ, _%_, _≤_, _<_}
 use Prim.Native.Char.{code}
 use native.Mathlib.Omega.{arith}
 use lib.Dec.{eqb, ltb}
-use lib.ListN.{length, take, drop, getD, set, replicate, length-take}
-use lib.Seq.{take-nil, getD-take, set-out}
+use lib.ListN.{length, take, drop, getD, replicate, length-take}
+use lib.Seq.{getD-take}
 use borrow.Author.Tests.{ltb-false, eqb-true, eqb-false}
 use Rattle.model.specs.declared.SendPart.{SendPart}
 use Rattle.model.specs.declared.Receive.{Receive}
@@ -19,8 +19,8 @@ use Rattle.model.specs.Refusals.{unless, firstRefusal}
 use Rattle.model.proofs.Laws.{by}
 use Rattle.laws.proofs.Lists.{zero-or-not}
 use Rattle.language.specs.Words.{words, sameWord, isNumber, value}
-use Rattle.language.specs.Grammar.{largest, least, takesSign}
-use Rattle.language.specs.Commands.{isNegative, digitsOf, wrongDigits, wrongNumber, kept, Progress, stopped, reached, readNumber, readNumbers, Spelled, misspelled, spelled, startsWith, closed, readWait, readReceive, withWord, readWords, emptySend, readSend, readParts}
+use Rattle.language.specs.Grammar.{largest, takesSign}
+use Rattle.language.specs.Commands.{noPart, tooMuch, isNegative, digitsOf, wrongDigits, wrongNumber, kept, Progress, stopped, reached, readNumber, readNumbers, Spelled, misspelled, spelled, startsWith, closed, readWait, readReceive, withWord, readWords, emptySend, readSend, readParts}
 use Rattle.scanning.specs.Scanned.{between, Found}
 use Rattle.scanning.proofs.Runs.{found-none, found-word}
 use Rattle.commands.specs.declared.Cursor.{Cursor}
@@ -58,9 +58,9 @@ module _ (line : List ℕ) (cursor : Cursor) (send : SendPart) (receive : Receiv
     close-end s = rw (progress-reached line [] cursor e, found-none line _ _ _ f s) (spells-out line send receive)
 
     -- something is
-    pub close-more : (start ≡ end → ⊥) → Spells line (closed send (λ _. receive) (progress line [] cursor)) (misspelling 8 start end)
+    pub close-more : (start ≡ end → ⊥) → Spells line (closed send (λ _. receive) (progress line [] cursor)) (misspelling tooMuch start end)
     unfolding closed
-    close-more d = rw (progress-reached line [] cursor e, found-word line _ _ _ f d) (spells-wrong line 8 start end (record { ordered = f .ordered; within = f .within }) (omega arith))
+    close-more d = rw (progress-reached line [] cursor e, found-word line _ _ _ f d) (spells-wrong line tooMuch start end (record { ordered = f .ordered; within = f .within }) (omega arith))
 
 -- only the receive part depends on the numbers
 closed-same : (send : SendPart) (receive : Receive) (f : List ℕ → Receive) (ns ms : List ℕ) (left : List (List ℕ)) → receive ≡ f ms
@@ -95,14 +95,14 @@ pub record ByteMore (before after : List ℕ) : Type 0 where
   pub is : after ≡ before ++ (byte ∷ [])
 
 -- a number with the letter of a byte, where it is read
-byte-more : (before after : List ℕ) (left later : List (List ℕ)) → readNumber 98 (reached before left) ≡ reached after later → ByteMore before after
+byte-more : (before after : List ℕ) (left later : List (List ℕ)) → readNumber (code "b") (reached before left) ≡ reached after later → ByteMore before after
 unfolding readNumber wrongNumber kept takesSign largest
 byte-more before after [] later e = let clash : _≡_ {A = ℕ} 0 1 = cc in absurd (omega arith)
-byte-more before after (word ∷ left) later e = zero-or-not (wrongNumber 98 word)
-    (λ z. let read : reached (before ++ (value (digitsOf 98 word) ∷ [])) left ≡ reached after later = sym (unless-none _ _ _ z) ∙ e in
-    let fits : value (digitsOf 98 word) ≤ 255 = not-above 98 (digitsOf 98 word) z in
-    record { byte = value (digitsOf 98 word); small = omega arith; is = cc })
-    (λ g z. let stop : stopped (wrongNumber 98 word) word ≡ reached after later = sym (unless-some _ _ _ (λ n. omega arith)) ∙ e in
+byte-more before after (word ∷ left) later e = zero-or-not (wrongNumber (code "b") word)
+    (λ z. let read : reached (before ++ (value (digitsOf (code "b") word) ∷ [])) left ≡ reached after later = sym (unless-none _ _ _ z) ∙ e in
+    let fits : value (digitsOf (code "b") word) ≤ 255 = not-above (code "b") (digitsOf (code "b") word) z in
+    record { byte = value (digitsOf (code "b") word); small = omega arith; is = cc })
+    (λ g z. let stop : stopped (wrongNumber (code "b") word) word ≡ reached after later = sym (unless-some _ _ _ (λ n. omega arith)) ∙ e in
     let clash : _≡_ {A = ℕ} 0 1 = cc in absurd (omega arith))
 
 -- one such number
@@ -121,8 +121,8 @@ pub record TwoBytes (numbers : List ℕ) : Type 0 where
 -- two such numbers
 pub two-bytes : (numbers : List ℕ) (left later : List (List ℕ)) → readNumbers (ascii "bb") (reached [] left) ≡ reached numbers later → TwoBytes numbers
 unfolding readNumbers ascii upTo readNumber
-two-bytes numbers left later e = go (readNumber 98 (reached [] left)) refl e where
-  go : (p : Progress) → readNumber 98 (reached [] left) ≡ p → readNumber 98 p ≡ reached numbers later → TwoBytes numbers
+two-bytes numbers left later e = go (readNumber (code "b") (reached [] left)) refl e where
+  go : (p : Progress) → readNumber (code "b") (reached [] left) ≡ p → readNumber (code "b") p ≡ reached numbers later → TwoBytes numbers
   go (stopped reason word) q n = let clash : _≡_ {A = ℕ} 0 1 = cc in absurd (omega arith)
   go (reached front behind) q n =
       let a = byte-more [] front left behind q in
@@ -211,9 +211,9 @@ module _ (line : List ℕ) (send : SendPart) (at start end : ℕ) (f : Found lin
     receive-word e = rw (found-word line at start end f d, e)
 
     -- another
-    pub receive-other : sameWord (between start end line) (ascii "receive") ≡ false → Spells line (readReceive send (words (drop at line))) (misspelling 3 start end)
+    pub receive-other : sameWord (between start end line) (ascii "receive") ≡ false → Spells line (readReceive send (words (drop at line))) (misspelling noPart start end)
     unfolding readReceive
-    receive-other e = rw (found-word line at start end f d, e) (spells-wrong line 3 start end (record { ordered = f .ordered; within = f .within }) (omega arith))
+    receive-other e = rw (found-word line at start end f d, e) (spells-wrong line noPart start end (record { ordered = f .ordered; within = f .within }) (omega arith))
 
 -- ---- a send part
 module _ (line : List ℕ) (send : SendPart) (at start end : ℕ) (f : Found line at start end) where
@@ -228,7 +228,7 @@ module _ (line : List ℕ) (send : SendPart) (at start end : ℕ) (f : Found lin
     unfolding readWords
     words-receive e = rw (found-word line at start end f d, e)
 
-    module _ (e : sameWord (between start end line) (ascii "receive") ≡ false) (amount : Amount) (m : Measured 119 (digitsOf 119 (between start end line)) amount) where
+    module _ (e : sameWord (between start end line) (ascii "receive") ≡ false) (amount : Amount) (m : Measured (code "w") (digitsOf (code "w") (between start end line)) amount) where
       -- what is no word of a message
       pub words-wrong : (amount .reason ≡ 0 → ⊥) → Spells line (readWords send (words (drop at line))) (misspelling (amount .reason) start end)
       unfolding readWords wrongNumber

@@ -1,20 +1,19 @@
 -- What the structs of this crate stand for, and what its functions promise of them.
 use mathlib.Core.Path.{_≡_}
-use mathlib.Core.Bool.{Bool, cond}
-use mathlib.Core.List.{List, [], _∷_, _++_}
-use Prim.Native.Nat.{ℕ, _+_, _*_, _≤_}
+use mathlib.Core.Bool.{cond}
+use mathlib.Core.List.{List, [], _++_}
+use Prim.Native.Nat.{ℕ, _+_, _≤_}
 use lib.Dec.{eqb}
 use lib.ListN.{length, take, drop, getD}
 use Rattle.model.specs.declared.Operation.{Operation}
 use Rattle.model.specs.declared.SendPart.{SendPart}
 use Rattle.model.specs.declared.Receive.{Receive}
 use Rattle.model.specs.declared.Receive.the-variants.{Open, Closed}
-use Rattle.model.specs.Lists.{bit}
 use Rattle.model.specs.Threads.{noOperation}
 use Rattle.model.specs.Refusals.{unless}
 use Rattle.model.specs.Bondtrace.{ascii}
 use Rattle.language.specs.Words.{words, value}
-use Rattle.language.specs.Grammar.{grammar, mostNumbers, firstField, setRow, findRow, numberLetters, takesSign}
+use Rattle.language.specs.Grammar.{grammar, mostNumbers, firstField, setRow, findRow, numberLetters}
 use Rattle.language.specs.Commands.{wrongDigits, wrongNumber, kept, Progress, stopped, reached, readNumbers, readMore, Spelled, misspelled, spelled, closed, Command, skipped, wrong, asked, readRow, readField, noCommand}
 use Rattle.scanning.specs.Scanned.{between}
 use Rattle.commands.specs.declared.Parsed.{Parsed}

@@ -1,8 +1,7 @@
 // A number by its letter: its largest value, its least, its sign, and how many more may follow.
 ghost use mathlib.Core.Path.{_≡_};
-ghost use lib.ListN.{drop};
 ghost use Rattle.language.specs.Grammar.{largest, least, takesSign, mostMore};
-ghost use Rattle.language.specs.Commands.{wrongDigits, isNegative, digitsOf};
+ghost use Rattle.language.specs.Commands.{isNegative, digitsOf};
 ghost use Rattle.commands.specs.Standing.{Measured};
 use crate::NOT_NUMBER;
 use crate::TOO_LARGE;

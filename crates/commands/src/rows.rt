@@ -2,7 +2,7 @@
 ghost use mathlib.Core.Path.{_≡_};
 ghost use Prim.Native.Nat.{_+_, _*_, _≤_, _<_};
 ghost use lib.ListN.{getD};
-ghost use Rattle.language.specs.Grammar.{grammar, rows, rowLength, nameLength, column, isName, findRow, numberLetters, restLetter};
+ghost use Rattle.language.specs.Grammar.{grammar, rows, rowLength, nameLength, column, isName, findRow, restLetter};
 ghost use Rattle.commands.specs.Standing.{Letters};
 use scanning::word_end;
 

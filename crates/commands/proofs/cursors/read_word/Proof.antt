@@ -1,4 +1,3 @@
-use mathlib.Core.Path.{sym}
 use borrow.Author.Needs.{needs}
 use Rattle.commands.proofs.Reading.{word-wrong, word-read}
 use Rattle.commands.proofs.cursors.read_word.Statement.{statement}

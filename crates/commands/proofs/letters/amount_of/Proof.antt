@@ -1,5 +1,4 @@
-use mathlib.Core.Path.{_≡_, sym, _∙_}
-use native.Mathlib.Omega.{arith}
+use mathlib.Core.Path.{sym, _∙_}
 use borrow.Author.Needs.{needs}
 use Rattle.commands.proofs.Measures.{negative-some, digits-behind, digits-whole}
 use Rattle.commands.proofs.letters.amount_of.Statement.{statement}
