@@ -1,32 +1,32 @@
 -- Laws of lines, words and numbers: what a run of blanks, a word, a line and a digit make of the bytes behind them.
 use mathlib.Core.Path.{_≡_, refl, ap, _∙_}
 use mathlib.Core.Logic.{_≢_}
-use mathlib.Core.Bool.{Bool, true, false, not, cond, _&&_}
+use mathlib.Core.Bool.{Bool, true, false, not, _&&_}
 use mathlib.Core.List.{List, [], _∷_, _++_}
-use Prim.Native.Nat.{ℕ, suc, _+_, _-_, _*_, _≤_, _<_, min}
+use Prim.Native.Nat.{ℕ, suc, _+_, _-_, _*_, _≤_, min}
 use native.Mathlib.Omega.{arith}
 use native.Mathlib.Nat.{min-eq-left}
 use lib.Dec.{eqb, leb}
-use lib.ListN.{length, take, drop, getD}
+use lib.ListN.{length}
 use borrow.Author.Tests.{ne-eqb, not-true, leb-true, leb-false}
 use Rattle.model.specs.Schedule.{isEmpty}
 use Rattle.model.proofs.Laws.{by, and-left, and-right, and-made}
 use Rattle.language.specs.Runs.{each, solid, unbroken, lastLine}
-use Rattle.language.specs.Words.{joined, newline, lines, withoutReturn, isBlank, startsWord, words, sameWord, isDigit, allDigits, isNumber, grown, value}
+use Rattle.language.specs.Words.{joined, newline, lines, withoutReturn, isBlank, startsWord, words, sameWord, grown}
 
 -- ---- a test of every byte
 module _ (test : ℕ → Bool) where
-  -- it holds of none
+  -- it holds of every byte of nothing
   pub each-none : each test [] ≡ true
   unfolding each
   each-none = refl
 
-  -- then of the first
+  -- where it holds of every byte it holds of the first
   pub each-first : (byte : ℕ) (line : List ℕ) → each test (byte ∷ line) ≡ true → test byte ≡ true
   unfolding each
   each-first byte line e = and-left _ _ e
 
-  -- and of the others
+  -- and of every other
   pub each-rest : (byte : ℕ) (line : List ℕ) → each test (byte ∷ line) ≡ true → each test line ≡ true
   unfolding each
   each-rest byte line e = and-right (test byte) _ e

@@ -1,21 +1,19 @@
 -- Runs of bytes that pass a test: how a loop finds the end of one, and what a run of blanks, a word and a line tell of the bytes.
 use mathlib.Core.Path.{_≡_, refl, sym, ap, _∙_}
-use mathlib.Core.Bool.{Bool, true, false, not, cond}
+use mathlib.Core.Bool.{Bool, true, false}
 use mathlib.Core.List.{List, [], _∷_, _++_}
 use Prim.Native.Nat.{ℕ, suc, _+_, _-_, _≤_, _<_}
-use native.Mathlib.Numerals.{add-one}
 use native.Mathlib.Omega.{arith}
 use lib.Dec.{eqb, ltb}
 use lib.ListN.{length, take, drop, getD, length-take, length-drop, take-append-drop, drop-of-length-le}
 use lib.Seq.{take-all, take-length, take-suc, drop-cons, drop-drop, getD-drop}
-use borrow.Author.Tests.{eqb-true, eqb-false, ltb-true, ltb-false, not-false}
-use Rattle.model.specs.Schedule.{isEmpty}
+use borrow.Author.Tests.{eqb-true, eqb-false, eq-eqb, ne-eqb, ltb-true, ltb-false, not-false}
 use Rattle.model.proofs.Laws.{by}
 use Rattle.laws.proofs.Records.{not-empty}
 use Rattle.language.specs.Words.{newline, lines, withoutReturn, isBlank, startsWord, words}
-use Rattle.language.specs.Runs.{each, lastLine}
+use Rattle.language.specs.Runs.{lastLine}
 use Rattle.language.proofs.Words.{each-none, each-more, words-none, words-blanks, words-word, lines-line, lines-last, return-kept, return-cut}
-use Rattle.scanning.specs.Scanned.{between, Passing, Run, ofWord, ofLine, Found, wordsFrom, LineEnd, Shortened}
+use Rattle.scanning.specs.Scanned.{between, Passing, Run, ofWord, ofLine, Found, LineEnd, Shortened}
 
 -- ---- bytes between two places
 -- with what stands behind them they are the rest
@@ -95,6 +93,15 @@ module _ (line : List ℕ) (from start end : ℕ) (blanks : Run isBlank line fro
     within = word .passing .within;
     found = by (eqb start end) (λ e. rw e (skipped ∙ at-end (eqb-true _ _ e))) (λ e. rw e (skipped ∙ first-word (eqb-false _ _ e)));
   }
+
+module _ (line : List ℕ) (from start end : ℕ) (f : Found line from start end) where
+  -- no word is found
+  pub found-none : start ≡ end → words (drop from line) ≡ []
+  found-none e = rw (eq-eqb start end e) at (f .found)
+
+  -- or one is
+  pub found-word : (start ≡ end → ⊥) → words (drop from line) ≡ between start end line ∷ words (drop end line)
+  found-word d = rw (ne-eqb start end d) at (f .found)
 
 -- ---- lines
 module _ (bytes : List ℕ) (from stop : ℕ) (r : Run ofLine bytes from stop) where

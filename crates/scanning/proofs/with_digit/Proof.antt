@@ -1,4 +1,3 @@
-use native.Mathlib.Omega.{arith}
 use borrow.Author.Needs.{needs}
 use Rattle.scanning.proofs.Numbers.{digit-above}
 use Rattle.scanning.proofs.with_digit.Statement.{statement}

@@ -1,0 +1,5 @@
+pub mod Measures
+pub mod Reading
+pub mod Returned
+pub mod Spelling
+pub mod Table

@@ -1,0 +1,26 @@
+use mathlib.Core.Path.{sym, _∙_}
+use native.Mathlib.Omega.{arith}
+use lib.ListN.{List·getD-eq-default}
+use borrow.Author.Needs.{needs}
+use borrow.Author.Tests.{not-true, not-false}
+use Rattle.language.specs.Commands.{isNegative}
+use Rattle.commands.proofs.letters.is_negative.Statement.{statement}
+use Rattle.commands.proofs.letters.is_negative.Tie as tie
+
+-- one that may have no sign
+returns : tie.Need-returns
+unfolding isNegative
+returns c = rw (sym (c .before .takes-sign .ensures) ∙ not-true (c .before .takes-sign .result) (c .if1 .taken))
+
+-- an empty word
+returns-2 : tie.Need-returns-2
+unfolding isNegative
+returns-2 c = rw (sym (c .before .before .takes-sign .ensures) ∙ not-false (c .before .before .takes-sign .result) (c .before .if1 .left), List·getD-eq-default (c .before .before .before .before .args .word .now) 0 {n = 0} (omega arith))
+
+-- the first byte tells
+returns-3 : tie.Need-returns-3
+unfolding isNegative
+returns-3 c = rw (sym (c .before .before .before .takes-sign .ensures) ∙ not-false (c .before .before .before .takes-sign .result) (c .before .before .if1 .left))
+
+pub is-negative-spec : {M : Type 1} → statement M
+is-negative-spec = tie.close (tie.spec (λ c κs. search needs) returns returns-2 (λ c. search needs) returns-3)

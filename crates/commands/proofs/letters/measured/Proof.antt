@@ -1,0 +1,29 @@
+use native.Mathlib.Omega.{arith}
+use borrow.Author.Needs.{needs}
+use borrow.Author.Tests.{not-true, not-false}
+use Rattle.commands.proofs.Measures.{largest-below, measured-none, measured-large, measured-small, measured-fine}
+use Rattle.commands.proofs.letters.measured.Statement.{statement}
+use Rattle.commands.proofs.letters.measured.Tie as tie
+
+-- what is no number
+returns : tie.Need-returns
+returns c = measured-none _ _ (c .before .before .number .ensures) (not-true (c .before .before .number .result .digits) (c .if1 .taken))
+
+-- one that is too large
+returns-2 : tie.Need-returns-2
+returns-2 c = measured-large _ _ (c .before .before .before .before .number .ensures) (not-false (c .before .before .before .before .number .result .digits) (c .before .before .if1 .left)) (rw (c .before .largest-of .ensures) at (c .if2 .taken))
+
+-- one that is too small
+returns-3 : tie.Need-returns-3
+returns-3 c = measured-small _ _ (c .before .before .before .before .before .before .number .ensures) (not-false (c .before .before .before .before .before .before .number .result .digits) (c .before .before .before .before .if1 .left)) (rw (c .before .before .before .largest-of .ensures) at (c .before .before .if2 .left)) (rw (c .before .least-of .ensures) at (c .if3 .taken))
+
+-- what is not above the largest fits
+cast-t7 : tie.Need-cast-t7
+cast-t7 c = omega (arith, largest-below (c .before .before .before .before .before .before .before .before .args .letter))
+
+-- one that is neither
+returns-4 : tie.Need-returns-4
+returns-4 c = measured-fine _ _ (c .before .before .before .before .before .before .number .ensures) (not-false (c .before .before .before .before .before .before .number .result .digits) (c .before .before .before .before .if1 .left)) (rw (c .before .before .before .largest-of .ensures) at (c .before .before .if2 .left)) (rw (c .before .least-of .ensures) at (c .if3 .left))
+
+pub measured-spec : {M : Type 1} → statement M
+measured-spec = tie.close (tie.spec (λ c κs. search needs) returns (λ c κs. search needs) returns-2 (λ c κs. search needs) returns-3 cast-t7 returns-4)

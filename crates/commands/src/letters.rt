@@ -1,0 +1,151 @@
+// A number by its letter: its largest value, its least, its sign, and how many more may follow.
+ghost use mathlib.Core.Path.{_≡_};
+ghost use Rattle.language.specs.Grammar.{largest, least, takesSign, mostMore};
+ghost use Rattle.language.specs.Commands.{isNegative, digitsOf};
+ghost use Rattle.commands.specs.Standing.{Measured};
+use crate::NOT_NUMBER;
+use crate::TOO_LARGE;
+use crate::TOO_SMALL;
+use scanning::number;
+
+// The letters: a flag, a thread, a record, a size of the store, a byte, a place of a queue, a word, ticks, and a code with its sign.
+const FLAG: u8 = b'1';
+
+const THREAD: u8 = b't';
+
+const RECORDS: u8 = b'r';
+
+const SIZE: u8 = b's';
+
+pub const BYTE: u8 = b'b';
+
+const QUEUED: u8 = b'q';
+
+pub const WORD: u8 = b'w';
+
+const TICKS: u8 = b'k';
+
+const CODE: u8 = b'c';
+
+// What stands before a number below 0.
+const MINUS: u8 = b'-';
+
+// A number, or why a word is none.
+pub struct Amount {
+    pub reason: u8,
+    pub value: u32,
+}
+
+// The largest number of a letter.
+fn largest_of(letter: u8) -> u64
+    ensures { λ r. ⌜ r ≡ largest letter ⌝ }
+{
+    if letter == FLAG {
+        return 1;
+    }
+    if letter == THREAD {
+        return 31;
+    }
+    if letter == RECORDS {
+        return 40;
+    }
+    if letter == SIZE {
+        return 320;
+    }
+    if letter == BYTE {
+        return 255;
+    }
+    if letter == QUEUED {
+        return 255;
+    }
+    if letter == WORD {
+        return 4294967295;
+    }
+    65535
+}
+
+// The least.
+fn least_of(letter: u8) -> u64
+    ensures { λ r. ⌜ r ≡ least letter ⌝ }
+{
+    if letter == TICKS {
+        return 1;
+    }
+    0
+}
+
+// Whether it may have a sign.
+pub fn takes_sign(letter: u8) -> bool
+    ensures { λ r. ⌜ r ≡ takesSign letter ⌝ }
+{
+    letter == CODE
+}
+
+// How many more numbers may follow.
+pub fn most_more(letter: u8) -> usize
+    ensures { λ r. ⌜ r ≡ mostMore letter ⌝ }
+{
+    if letter == TICKS {
+        return 1;
+    }
+    if letter == QUEUED {
+        return 32;
+    }
+    if letter == BYTE {
+        return 2048;
+    }
+    0
+}
+
+// Whether a number has a sign where one is allowed.
+pub fn is_negative(letter: u8, word: &[u8]) -> bool
+    ensures { λ r. ⌜ r ≡ isNegative letter (now (word .entry)) ⌝ }
+{
+    if !takes_sign(letter) {
+        return false;
+    }
+    if word.len() == 0 {
+        return false;
+    }
+    word[0] == MINUS
+}
+
+// The number that digits are, where it is one of its letter.
+fn measured(letter: u8, digits: &[u8]) -> Amount
+    ensures { λ r. ⌜ Measured letter (now (digits .entry)) r ⌝ }
+{
+    let read = number(digits);
+    if !read.digits {
+        return Amount {
+            reason: NOT_NUMBER,
+            value: 0,
+        };
+    }
+    let value = read.value;
+    if largest_of(letter) < value {
+        return Amount {
+            reason: TOO_LARGE,
+            value: 0,
+        };
+    }
+    if value < least_of(letter) {
+        return Amount {
+            reason: TOO_SMALL,
+            value: 0,
+        };
+    }
+    Amount {
+        reason: 0,
+        value: value as u32,
+    }
+}
+
+// The number that a word is without its sign.
+pub fn amount_of(letter: u8, word: &[u8]) -> Amount
+    ensures { λ r. ⌜ Measured letter (digitsOf letter (now (word .entry))) r ⌝ }
+{
+    if is_negative(letter, word) {
+        return measured(letter, &word[1..]);
+    }
+    measured(letter, word)
+}
