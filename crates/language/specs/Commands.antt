@@ -44,6 +44,13 @@ tooMuch = 8
 abbrev pub tooLong : ℕ
 tooLong = 9
 
+-- why a command is no line of a schedule
+abbrev pub notRecord : ℕ
+notRecord = 10
+
+abbrev pub tableFirst : ℕ
+tableFirst = 11
+
 -- the reasons in plain words
 unfoldable pub reasons : List (List ℕ)
 reasons =
@@ -57,6 +64,8 @@ reasons =
     ∷ ascii "number too small"
     ∷ ascii "too much on the line"
     ∷ ascii "line too long"
+    ∷ ascii "no line of a schedule"
+    ∷ ascii "table stands first, and only there"
     ∷ []
 
 -- one of them

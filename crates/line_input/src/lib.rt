@@ -132,3 +132,22 @@ pub fn read_on(input: i32, buffer: &mut [u8], feed: Feed) -> Feed
         long: feed.long,
     }
 }
+
+// The next line of the input, after as many reads as it takes; none where the input has ended.
+pub fn fetch_line(input: i32, buffer: &mut [u8], before: Feed) -> Taken
+    requires { ⌜ Fed (length (now buffer)) before ⌝ }
+    ensures { λ r. ⌜ TakenFrom (length (now (buffer .exit))) r ⌝ }
+    ensures { λ _. ⌜ length (now (buffer .exit)) ≡ length (now (buffer .entry)) ⌝ }
+{
+    let mut feed = before;
+    let mut turns: u64 = 0;
+    while turns < u64::MAX {
+        let taken = take_line(buffer, feed);
+        if taken.there | taken.feed.over {
+            return taken;
+        }
+        feed = read_on(input, buffer, taken.feed);
+        turns += 1;
+    }
+    take_line(buffer, feed)
+}

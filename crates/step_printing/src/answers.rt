@@ -20,10 +20,3 @@ pub fn print_answer(place: u64, answer: Answer) {
     let end = put_answer(out, spaced, answer);
     print_line(out, end);
 }
-
-// Prints the line of a schedule that is refused: the number, and the byte where the refused record starts.
-pub fn print_bad(number: u8, byte: u64) {
-    let mut line = io::buffer();
-    let end = printing::bad_line(number, byte, &mut line);
-    io::write_all(STDOUT_FILENO, &line[..end]);
-}

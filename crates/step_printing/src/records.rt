@@ -1,54 +1,19 @@
-// The loop over the records, which are read through one buffer.
+// The loop over the records.
 ghost use mathlib.Core.Path.{_≡_};
 ghost use Prim.Native.Nat.{_≤_, _<_};
 ghost use lib.ListN.{length};
 use crate::answers::print_answer;
-use crate::answers::print_bad;
 use crate::answers::print_made;
 use crate::lines::print_thread;
 use model::Answer;
 use model::Record;
 use model::Returned;
 use model::Table;
-use reading::BEGIN_BYTES;
-
-// No schedule is followed past this byte, so that the count of bytes cannot overflow.
-const LAST_BYTE: u64 = u64::MAX - BEGIN_BYTES as u64;
-
-// A slice of the buffer: the bytes from start to end.
-struct Span {
-    start: usize,
-    end: usize,
-}
-
-// A record, and how many bytes it has; refused, none, and the number.
-struct Taken {
-    item: Record,
-    length: usize,
-    refusal: u8,
-}
-
-// The bytes not yet used, after more are read where the buffer's end may cut a record.
-fn unread(input: i32, buffer: &mut [u8], left: Span) -> Span
-    requires { ⌜ (left .start ≤ left .end) × (left .end ≤ length (now buffer)) ⌝ }
-    ensures { λ _. ⌜ length (now (buffer .exit)) ≡ length (now (buffer .entry)) ⌝ }
-    ensures { λ r. ⌜ (r .start ≤ r .end) × (r .end ≤ length (now (buffer .exit))) ⌝ }
-{
-    let start = left.start;
-    let end = left.end;
-    if BEGIN_BYTES <= end - start {
-        return left;
-    }
-    // Only the input's end leaves room in the buffer.
-    if end < buffer.len() {
-        return left;
-    }
-    let filled = refill::refill(input, buffer, start, end);
-    Span {
-        start: 0,
-        end: filled,
-    }
-}
+use record_input::LAST_BYTE;
+use record_input::Span;
+use record_input::print_bad;
+use record_input::take;
+use record_input::unread;
 
 // Prints the lines of all threads.
 fn print_threads(table: Table, store: &[u32]) {
@@ -79,29 +44,6 @@ fn call(table: Table, item: Record, store: &mut [u32]) -> Returned {
         return engine::cancel(table, item.thread);
     }
     engine::tick(table)
-}
-
-// Reads the record at the front of the bytes, told whether it is the first.
-fn take(first: bool, bytes: &[u8]) -> Taken
-    ensures { λ r. ⌜ r .length ≤ length (now (bytes .entry)) ⌝ }
-    ensures { λ r. ⌜ r .length ≤ 42 ⌝ }
-{
-    let decoded = reading::read(first, bytes);
-    let answer = decoded.answer;
-    let item = decoded.item;
-    if let Answer::Refused(number) = answer {
-        return Taken {
-            item: item,
-            length: 0,
-            refusal: number,
-        };
-    }
-    let length = reading::record_length(item.kind);
-    Taken {
-        item: item,
-        length: length,
-        refusal: 0,
-    }
 }
 
 // Follows the records after the first, which stood before a slice of the buffer.

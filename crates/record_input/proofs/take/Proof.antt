@@ -1,8 +1,8 @@
 use borrow.Author.Needs.{needs}
 use Rattle.laws.proofs.Schedule.{record-longest}
-use Rattle.step_printing.proofs.Accepted.{record-whole}
-use Rattle.step_printing.proofs.records.take.Statement.{statement}
-use Rattle.step_printing.proofs.records.take.Tie as tie
+use Rattle.record_input.proofs.Accepted.{record-whole}
+use Rattle.record_input.proofs.take.Statement.{statement}
+use Rattle.record_input.proofs.take.Tie as tie
 
 read-requires : tie.Need-read-requires
 read-requires c κs = search needs
