@@ -18,7 +18,7 @@ use text::put_signed;
 use text::put_words;
 
 // A thread's number, and its code, source and count.
-fn put_outcome(out: &mut [u8], start: usize, x: u8, shown: Outcome) -> usize
+pub fn put_outcome(out: &mut [u8], start: usize, x: u8, shown: Outcome) -> usize
     ensures { λ r. ⌜ Written start (outcomeText x shown) (now (out .entry)) (now (out .exit)) r ⌝ }
     ensures { λ _. ⌜ length (outcomeText x shown) ≤ longestOutcome ⌝ }
 {

@@ -1,0 +1,54 @@
+// The commands that print a thread: its outcome, or everything in use.
+use crate::calls::put_line;
+use crate::sessions::Session;
+use model::Answer;
+use model::Outcome;
+use model::OutcomeAnswer;
+use text::put_byte;
+use text::put_words;
+use threads::WORD_LIMIT;
+
+// An outcome and the words that go with it.
+fn put_shown(out: &mut [u8], x: u8, shown: Outcome, words: &[u32]) -> usize {
+    let told = printing::put_outcome(out, 0, x, shown);
+    let ended = put_words(out, told, words);
+    put_byte(out, ended, text::NEWLINE)
+}
+
+// The outcome of thread x and its words, by the public calls.
+pub fn outcome(session: Session, x: u8, store: &[u32], out: &mut [u8]) -> usize {
+    let table = session.table;
+    let lent = numbers::lesser(session.words, store.len());
+    let answer = outcomes::outcome_answer(table, x, &store[0..lent]);
+    let words = outcomes::outcome_words(table, x, &store[0..lent]);
+    match answer {
+        OutcomeAnswer::Refused(number) => put_line(out, 0, Answer::Refused(number)),
+        OutcomeAnswer::Shown(shown) => put_shown(out, x, shown, words),
+    }
+}
+
+// A line for each thread, 32 at most, with those of its words that are lent.
+pub fn show(session: Session, store: &[u32], out: &mut [u8]) -> usize {
+    let table = session.table;
+    let n = table.n as usize;
+    let lent = numbers::lesser(session.words, store.len());
+    let mut end: usize = 0;
+    let mut i: usize = 0;
+    while i < 32 {
+        if n <= i {
+            return end;
+        }
+        let thread = table.threads[i];
+        let x = i as u8;
+        let words = words::first_words(&store[0..lent], x, WORD_LIMIT);
+        end = showing::put_thread(out, end, x, thread, words);
+        i += 1;
+    }
+    end
+}
+
+// The words behind `say`.
+pub fn said(line: &[u8], out: &mut [u8]) -> usize {
+    let end = scanning::without_return(line);
+    replies::put_said(out, 0, &line[0..end])
+}

@@ -1,0 +1,33 @@
+use mathlib.Core.Path.{_≡_}
+use Prim.Native.Nat.{_-_}
+use lib.ListN.{length}
+use borrow.Author.Needs.{needs}
+use Rattle.scripts.proofs.main.Statement.{statement}
+use Rattle.scripts.proofs.main.Tie as tie
+
+-- the buffer keeps its length
+abbrev Inv-loop : tie.InvT-loop
+Inv-loop word₀ count i₀ word i = 4096 ≡ length word
+
+-- how many scripts are left
+abbrev μ-loop : tie.MeasureT-loop
+μ-loop word₀ count i₀ word i = count - i
+
+pub main-spec : {M : Type 1} → statement M
+main-spec =
+    tie.close
+    (tie.spec
+    Inv-loop
+    μ-loop
+    (λ c κs. search needs)
+    (λ c κs. search needs)
+    (λ c. search needs)
+    (λ c. search needs)
+    (λ c κs. search needs)
+    (λ c. search needs)
+    (λ c. search needs)
+    (λ c κs. search needs)
+    (λ c. search needs)
+    (λ c. search needs)
+    (λ c. search needs)
+    (λ c. search needs))
