@@ -2,6 +2,7 @@
 ghost use mathlib.Core.Path.{_≡_};
 ghost use Prim.Native.Nat.{_≤_};
 ghost use lib.ListN.{length};
+ghost use Rattle.record_input.specs.Places.{Within, Places};
 use libc::STDOUT_FILENO;
 use model::Answer;
 use model::Record;
@@ -16,18 +17,39 @@ pub struct Span {
     pub end: usize,
 }
 
-// A record, and how many bytes it has; refused, none, and the number.
-pub struct Taken {
+// The next record: whether the schedule ended before it; the record, where its bytes start and how many they are; refused, none, and the number; and the
+// bytes behind it.
+pub struct Next {
+    pub over: bool,
     pub item: Record,
+    pub start: usize,
     pub length: usize,
     pub refusal: u8,
+    pub left: Span,
+}
+
+// A record, and how many bytes it has; refused, none, and the number.
+struct Taken {
+    item: Record,
+    length: usize,
+    refusal: u8,
+}
+
+// Nothing is read yet: of a buffer that is used up, nothing is left.
+pub fn nothing_read(buffer: &[u8]) -> Span
+    ensures { λ r. ⌜ Within (length (now (buffer .entry))) r ⌝ }
+{
+    Span {
+        start: buffer.len(),
+        end: buffer.len(),
+    }
 }
 
 // The bytes not yet used, after more are read where the buffer's end may cut a record.
-pub fn unread(input: i32, buffer: &mut [u8], left: Span) -> Span
-    requires { ⌜ (left .start ≤ left .end) × (left .end ≤ length (now buffer)) ⌝ }
+fn unread(input: i32, buffer: &mut [u8], left: Span) -> Span
+    requires { ⌜ Within (length (now buffer)) left ⌝ }
     ensures { λ _. ⌜ length (now (buffer .exit)) ≡ length (now (buffer .entry)) ⌝ }
-    ensures { λ r. ⌜ (r .start ≤ r .end) × (r .end ≤ length (now (buffer .exit))) ⌝ }
+    ensures { λ r. ⌜ Within (length (now (buffer .exit))) r ⌝ }
 {
     let start = left.start;
     let end = left.end;
@@ -46,7 +68,7 @@ pub fn unread(input: i32, buffer: &mut [u8], left: Span) -> Span
 }
 
 // Reads the record at the front of the bytes, told whether it is the first.
-pub fn take(first: bool, bytes: &[u8]) -> Taken
+fn take(first: bool, bytes: &[u8]) -> Taken
     ensures { λ r. ⌜ r .length ≤ length (now (bytes .entry)) ⌝ }
     ensures { λ r. ⌜ r .length ≤ 42 ⌝ }
 {
@@ -65,6 +87,32 @@ pub fn take(first: bool, bytes: &[u8]) -> Taken
         item: item,
         length: length,
         refusal: 0,
+    }
+}
+
+// The next record, told whether it is the first. A schedule has a first record, so it does not end before that.
+pub fn next_record(input: i32, buffer: &mut [u8], before: Span, first: bool) -> Next
+    requires { ⌜ Within (length (now buffer)) before ⌝ }
+    ensures { λ _. ⌜ length (now (buffer .exit)) ≡ length (now (buffer .entry)) ⌝ }
+    ensures { λ r. ⌜ Places (length (now (buffer .exit))) r ⌝ }
+{
+    let rest = unread(input, buffer, before);
+    let start = rest.start;
+    let end = rest.end;
+    let taken = take(first, &buffer[start..end]);
+    let item = taken.item;
+    let length = taken.length;
+    let left = Span {
+        start: start + length,
+        end: end,
+    };
+    Next {
+        over: !first & (start == end),
+        item: item,
+        start: start,
+        length: length,
+        refusal: taken.refusal,
+        left: left,
     }
 }
 

@@ -2,6 +2,7 @@
 ghost use mathlib.Core.Path.{_≡_};
 ghost use Prim.Native.Nat.{_≤_, _<_};
 ghost use lib.ListN.{length};
+ghost use Rattle.record_input.specs.Places.{Within};
 use crate::answers::print_answer;
 use crate::answers::print_made;
 use crate::lines::print_thread;
@@ -11,9 +12,9 @@ use model::Returned;
 use model::Table;
 use record_input::LAST_BYTE;
 use record_input::Span;
+use record_input::next_record;
+use record_input::nothing_read;
 use record_input::print_bad;
-use record_input::take;
-use record_input::unread;
 
 // Prints the lines of all threads.
 fn print_threads(table: Table, store: &[u32]) {
@@ -46,34 +47,39 @@ fn call(table: Table, item: Record, store: &mut [u32]) -> Returned {
     engine::tick(table)
 }
 
-// Follows the records after the first, which stood before a slice of the buffer.
-fn follow_rest(input: i32, buffer: &mut [u8], rest: Span, made: Table, store: &mut [u32])
-    requires { ⌜ (rest .start ≤ rest .end) × (rest .end ≤ length (now buffer)) ⌝ }
-    requires { ⌜ 0 < rest .start ⌝ }
+// Follows the records after the first, which has so many bytes and stood before a slice of the buffer.
+fn follow_rest(
+    input: i32,
+    buffer: &mut [u8],
+    size: usize,
+    rest: Span,
+    made: Table,
+    store: &mut [u32],
+)
+    requires { ⌜ Within (length (now buffer)) rest ⌝ }
+    requires { ⌜ (0 < size) × (size ≤ 42) ⌝ }
 {
     let mut table = made;
     let mut left = rest;
     let mut place: u64 = 1;
-    let mut byte = rest.start as u64;
+    let mut byte = size as u64;
     while byte < LAST_BYTE {
-        left = unread(input, buffer, left);
-        let start = left.start;
-        let end = left.end;
-        if start == end {
+        let next = next_record(input, buffer, left, false);
+        if next.over {
             return;
         }
-        let taken = take(false, &buffer[start..end]);
-        let length = taken.length;
+        let length = next.length;
         if length == 0 {
-            print_bad(taken.refusal, byte);
+            print_bad(next.refusal, byte);
             return;
         }
-        let returned = call(table, taken.item, store);
+        let item = next.item;
+        let returned = call(table, item, store);
         let answer = returned.answer;
         table = returned.table;
         print_answer(place, answer);
         print_threads(table, store);
-        left.start = start + length;
+        left = next.left;
         byte += length as u64;
         place += 1;
     }
@@ -90,14 +96,14 @@ fn zero_store() -> [u32; 256]
 pub fn follow(input: i32) {
     let mut space = io::large_buffer();
     let buffer: &mut [u8] = &mut space;
-    let filled = refill::refill(input, buffer, 0, 0);
-    let taken = take(true, &buffer[..filled]);
-    let length = taken.length;
+    let before = nothing_read(buffer);
+    let first = next_record(input, buffer, before, true);
+    let length = first.length;
     if length == 0 {
-        print_bad(taken.refusal, 0);
+        print_bad(first.refusal, 0);
         return;
     }
-    let made = engine::make(taken.item.thread);
+    let made = engine::make(first.item.thread);
     let answer = made.answer;
     if let Answer::Refused(number) = answer {
         print_bad(number, 0);
@@ -108,9 +114,6 @@ pub fn follow(input: i32) {
     let mut store = zero_store();
     print_made();
     print_threads(table, &store[0..words]);
-    let rest = Span {
-        start: length,
-        end: filled,
-    };
-    follow_rest(input, buffer, rest, table, &mut store[0..words]);
+    let rest = first.left;
+    follow_rest(input, buffer, length, rest, table, &mut store[0..words]);
 }

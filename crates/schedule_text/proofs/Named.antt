@@ -1,0 +1,50 @@
+-- Laws of the threads that a line names: a tick names thread 0 as often as it is told, every other line those that are its numbers.
+use mathlib.Core.Logic.{_≢_}
+use mathlib.Core.Path.{_≡_, refl, sym, _∙_, ap}
+use mathlib.Core.List.{List, [], _∷_}
+use Prim.Native.Nat.{ℕ, _<_}
+use native.Mathlib.Omega.{arith}
+use lib.ListN.{length, getD, replicate, length-replicate, getD-replicate}
+use borrow.Author.Tests.{eq-eqb, ne-eqb}
+use Rattle.model.specs.RecordBytes.{tickKind}
+use Rattle.laws.proofs.Lists.{cond-true, cond-false}
+use Rattle.language.specs.RecordText.{threadsOf}
+
+module _ (kind : ℕ) (numbers : List ℕ) where
+  -- a line that is no tick
+  pub named-threads : kind ≢ tickKind → threadsOf kind numbers ≡ numbers
+  unfolding threadsOf
+  named-threads other = cond-false _ _ _ (ne-eqb kind tickKind other)
+
+  -- a tick
+  tick-threads : kind ≡ tickKind → threadsOf kind numbers ≡ replicate (getD numbers 0 1) 0
+  unfolding threadsOf
+  tick-threads tick = cond-true _ _ _ (eq-eqb kind tickKind tick)
+
+  -- how often it is told
+  tick-many : kind ≡ tickKind → length (threadsOf kind numbers) ≡ getD numbers 0 1
+  tick-many tick = ap length (tick-threads tick) ∙ length-replicate (getD numbers 0 1) 0
+
+  -- once without a number
+  pub tick-once : kind ≡ tickKind → length numbers ≡ 0 → 1 ≡ length (threadsOf kind numbers)
+  tick-once tick none = sym (tick-many tick ∙ first numbers none)
+    where
+      first : (l : List ℕ) → length l ≡ 0 → getD l 0 1 ≡ 1
+      first [] e = refl
+      first (n ∷ l) e = absurd (omega arith)
+
+  -- as often as its number says
+  pub tick-counted : kind ≡ tickKind → length numbers ≢ 0 → getD numbers 0 0 ≡ length (threadsOf kind numbers)
+  tick-counted tick some = sym (tick-many tick ∙ first numbers some)
+    where
+      first : (l : List ℕ) → length l ≢ 0 → getD l 0 1 ≡ getD l 0 0
+      first [] n = absurd (n refl)
+      first (n ∷ l) e = refl
+
+  -- thread 0
+  pub tick-thread : kind ≡ tickKind → (i : ℕ) → i < length (threadsOf kind numbers) → getD (threadsOf kind numbers) i 0 ≡ 0
+  tick-thread tick i inside = rw (tick-threads tick) (getD-replicate (getD numbers 0 1) i 0 0 (rw (tick-many tick) at inside))
+
+  -- the numbers of a line that is no tick are as many
+  pub named-inside : kind ≢ tickKind → (i : ℕ) → i < length (threadsOf kind numbers) → i < length numbers
+  named-inside other i inside = rw (named-threads other) at inside

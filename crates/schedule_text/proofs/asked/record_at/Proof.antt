@@ -1,0 +1,10 @@
+use mathlib.Core.Path.{refl}
+use borrow.Author.Needs.{needs}
+use Rattle.schedule_text.proofs.asked.record_at.Statement.{statement}
+use Rattle.schedule_text.proofs.asked.record_at.Tie as tie
+
+returns : tie.Need-returns
+returns c = rw (c .thread-at .ensures) refl
+
+pub record-at-spec : {M : Type 1} → statement M
+record-at-spec = tie.close (tie.spec (λ c κs. search needs) returns)

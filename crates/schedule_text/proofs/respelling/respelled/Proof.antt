@@ -1,0 +1,27 @@
+use borrow.Author.Needs.{needs}
+use Rattle.text.proofs.Writing.{written-counts}
+use Rattle.schedule_text.proofs.respelling.respelled.Statement.{statement}
+use Rattle.schedule_text.proofs.respelling.respelled.Tie as tie
+
+slice-aggregate-command : tie.Need-slice-aggregate-command
+slice-aggregate-command c = written-counts (c .before .before .before .put-record .ensures .0) .1
+
+pub respelled-spec : {M : Type 1} → statement M
+respelled-spec =
+    tie.close
+    (tie.spec
+    (λ c κs. search needs)
+    (λ c. search needs)
+    (λ c κs. search needs)
+    (λ c κs. search needs)
+    (λ c. search needs)
+    slice-aggregate-command
+    (λ c. search needs)
+    (λ c κs. search needs)
+    (λ c. search needs)
+    (λ c. search needs)
+    (λ c. search needs)
+    (λ c. search needs)
+    (λ c. search needs)
+    (λ c κs. search needs)
+    (λ c. search needs))

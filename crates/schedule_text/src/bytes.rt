@@ -1,0 +1,146 @@
+// Text to bytes: the records of each line, up to the first line that is none of a schedule.
+ghost use mathlib.Core.Path.{_≡_};
+ghost use Prim.Native.Nat.{_+_, _≤_};
+ghost use lib.ListN.{length};
+use crate::asked::how_many;
+use crate::asked::no_numbers;
+use crate::asked::record_at;
+use commands::NOTHING;
+use commands::TICK_ROW;
+use commands::command;
+use libc::STDERR_FILENO;
+use libc::STDOUT_FILENO;
+use line_input::fetch_line;
+use model::Answer;
+use model::Operation;
+use reading::BEGIN_BYTES;
+use reading::record_length;
+use replies::NOT_RECORD;
+use replies::TABLE_FIRST;
+use replies::put_error;
+use scanning::next_word;
+use scanning::without_return;
+use writing::write;
+
+// What a line came to: whether it is one of a schedule, and whether the next record is the first.
+struct Step {
+    good: bool,
+    first: bool,
+}
+
+// Says why line n is none of a schedule, and at which word.
+fn say_wrong(n: u64, reason: u8, word: &[u8]) {
+    let mut text = io::large_buffer();
+    let end = put_error(&mut text, 0, n, reason, word);
+    io::write_all(STDERR_FILENO, &text[..end]);
+}
+
+// Says why line n is none of a schedule, with its first word.
+fn say_first(n: u64, reason: u8, line: &[u8]) {
+    let stop = without_return(line);
+    let word = next_word(&line[0..stop], 0);
+    let start = word.start;
+    let end = word.end;
+    say_wrong(n, reason, &line[start..end]);
+}
+
+// Writes out what is gathered where a record more might not fit; answers how many bytes are still gathered.
+fn with_room(filled: usize, out: &[u8]) -> usize
+    requires { ⌜ 42 ≤ length (now out) ⌝ }
+    requires { ⌜ filled ≤ length (now out) ⌝ }
+    ensures { λ r. ⌜ r + 42 ≤ length (now (out .entry)) ⌝ }
+{
+    if BEGIN_BYTES <= out.len() - filled {
+        return filled;
+    }
+    io::write_all(STDOUT_FILENO, &out[0..filled]);
+    0
+}
+
+// Writes the records of a line out, gathered in a buffer; answers false at one that is refused.
+fn write_records(first: bool, kind: u8, op: Operation, numbers: &[u32], out: &mut [u8]) -> bool
+    requires { ⌜ 42 ≤ length (now out) ⌝ }
+{
+    let count = how_many(kind, numbers);
+    let size = record_length(kind);
+    let mut filled: usize = 0;
+    let mut i: usize = 0;
+    while i < count {
+        filled = with_room(filled, out);
+        let item = record_at(kind, op, numbers, i);
+        let answer = write(first & (i == 0), item, &mut out[filled..]);
+        if let Answer::Refused(_) = answer {
+            return false;
+        }
+        filled += size;
+        i += 1;
+    }
+    io::write_all(STDOUT_FILENO, &out[0..filled]);
+    true
+}
+
+// Writes the records of line n out, told whether they are the first; or says why it has none.
+fn write_line(n: u64, line: &[u8], first: bool, numbers: &mut [u32], out: &mut [u8]) -> Step
+    requires { ⌜ 4128 ≤ length (now numbers) ⌝ }
+    requires { ⌜ 42 ≤ length (now out) ⌝ }
+{
+    let parsed = command(line, numbers);
+    let reason = parsed.reason;
+    if reason != 0 {
+        let start = parsed.start;
+        let end = parsed.end;
+        say_wrong(n, reason, &line[start..end]);
+        return Step { good: false, first };
+    }
+    let row = parsed.row;
+    if row == NOTHING {
+        return Step { good: true, first };
+    }
+    if TICK_ROW < row {
+        say_first(n, NOT_RECORD, line);
+        return Step { good: false, first };
+    }
+    let count = parsed.count;
+    let op = parsed.op;
+    if write_records(first, row, op, &numbers[0..count], out) {
+        return Step {
+            good: true,
+            first: false,
+        };
+    }
+    say_first(n, TABLE_FIRST, line);
+    Step { good: false, first }
+}
+
+// Writes the records of the lines that a descriptor delivers out, through a buffer for lines, one for numbers and one for bytes.
+fn write_lines(input: i32, buffer: &mut [u8], numbers: &mut [u32], out: &mut [u8])
+    requires { ⌜ 4128 ≤ length (now numbers) ⌝ }
+    requires { ⌜ 42 ≤ length (now out) ⌝ }
+{
+    let mut feed = line_input::unread();
+    let mut first = true;
+    let mut n: u64 = 0;
+    while n < u64::MAX {
+        let taken = fetch_line(input, buffer, feed);
+        if !taken.there {
+            return;
+        }
+        n += 1;
+        let start = taken.start;
+        let stop = taken.stop;
+        let step = write_line(n, &buffer[start..stop], first, numbers, out);
+        if !step.good {
+            return;
+        }
+        feed = taken.feed;
+        first = step.first;
+    }
+}
+
+// Writes the bytes of the schedule whose text a descriptor delivers, up to the end, or to the first line that is none of a schedule: that is told on standard error.
+pub fn print_bytes(input: i32) {
+    let mut lines = io::large_buffer();
+    let mut numbers = no_numbers();
+    let mut out = io::large_buffer();
+    write_lines(input, &mut lines, &mut numbers, &mut out);
+}
