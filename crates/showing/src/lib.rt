@@ -101,8 +101,8 @@ fn wide(byte: u8) -> u64
     byte as u64
 }
 
-// The first senders of a queue's places, as many as wait.
-fn put_senders(out: &mut [u8], start: usize, items: &[u8], len: u8) -> usize
+// The first senders of a queue's places, as many as wait, each behind a space.
+pub fn put_senders(out: &mut [u8], start: usize, items: &[u8], len: u8) -> usize
     ensures { λ r. ⌜ Written start (spaced (take len (now (items .entry)))) (now (out .entry)) (now (out .exit)) r ⌝ }
 {
     let most = numbers::lesser(len as usize, items.len());

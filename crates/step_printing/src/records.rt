@@ -3,9 +3,9 @@ ghost use mathlib.Core.Path.{_≡_};
 ghost use Prim.Native.Nat.{_≤_, _<_};
 ghost use lib.ListN.{length};
 ghost use Rattle.record_input.specs.Places.{Within};
-use crate::answers::print_answer;
-use crate::answers::print_made;
+use crate::answers;
 use crate::lines::print_thread;
+use crate::spoken;
 use model::Answer;
 use model::Record;
 use model::Returned;
@@ -47,6 +47,47 @@ fn call(table: Table, item: Record, store: &mut [u32]) -> Returned {
     engine::tick(table)
 }
 
+// The words of a store, in an array of the longest.
+fn words_of(store: &[u32]) -> [u32; 256]
+    ensures { λ r. ⌜ 256 ≡ length r ⌝ }
+{
+    let mut words = zero_store();
+    let most = numbers::lesser(store.len(), 256);
+    let mut i: usize = 0;
+    while i < most {
+        words[i] = store[i];
+        i += 1;
+    }
+    words
+}
+
+// Makes the call of a record and prints what comes of it: the table after it.
+fn follow_record(place: u64, item: Record, table: Table, store: &mut [u32], spoken: bool) -> Table
+    ensures { λ _. ⌜ length (now (store .exit)) ≡ length (now (store .entry)) ⌝ }
+{
+    let old = words_of(store);
+    let returned = call(table, item, store);
+    let answer = returned.answer;
+    let after = returned.table;
+    if spoken {
+        spoken::print_spoken(place, item, answer, table, after, &old, store);
+        return after;
+    }
+    answers::print_answer(place, answer);
+    print_threads(after, store);
+    after
+}
+
+// Prints what comes of the table record.
+fn follow_first(item: Record, made: Table, store: &[u32], spoken: bool) {
+    if spoken {
+        spoken::print_made(item);
+        return;
+    }
+    answers::print_made();
+    print_threads(made, store);
+}
+
 // Follows the records after the first, which has so many bytes and stood before a slice of the buffer.
 fn follow_rest(
     input: i32,
@@ -55,6 +96,7 @@ fn follow_rest(
     rest: Span,
     made: Table,
     store: &mut [u32],
+    spoken: bool,
 )
     requires { ⌜ Within (length (now buffer)) rest ⌝ }
     requires { ⌜ (0 < size) × (size ≤ 42) ⌝ }
@@ -74,11 +116,7 @@ fn follow_rest(
             return;
         }
         let item = next.item;
-        let returned = call(table, item, store);
-        let answer = returned.answer;
-        table = returned.table;
-        print_answer(place, answer);
-        print_threads(table, store);
+        table = follow_record(place, item, table, store, spoken);
         left = next.left;
         byte += length as u64;
         place += 1;
@@ -92,8 +130,8 @@ fn zero_store() -> [u32; 256]
     [0; 256]
 }
 
-// Follows the schedule that a descriptor delivers, to its end or to a record that is refused.
-pub fn follow(input: i32) {
+// Follows the schedule that a descriptor delivers, to its end or to a record that is refused; in words, or in full.
+pub fn follow(input: i32, spoken: bool) {
     let mut space = io::large_buffer();
     let buffer: &mut [u8] = &mut space;
     let before = nothing_read(buffer);
@@ -112,8 +150,15 @@ pub fn follow(input: i32) {
     let table = made.table;
     let words = 8 * (table.n as usize);
     let mut store = zero_store();
-    print_made();
-    print_threads(table, &store[0..words]);
+    follow_first(first.item, table, &store[0..words], spoken);
     let rest = first.left;
-    follow_rest(input, buffer, length, rest, table, &mut store[0..words]);
+    follow_rest(
+        input,
+        buffer,
+        length,
+        rest,
+        table,
+        &mut store[0..words],
+        spoken,
+    );
 }

@@ -15,7 +15,7 @@ fn play(name: &[u8], steps: bool) {
     io::write_all(STDOUT_FILENO, b"\n");
     let input = os::open_read(name);
     if steps {
-        step_printing::follow(input);
+        step_printing::follow(input, false);
         libc::close(input);
         return;
     }

@@ -9,11 +9,11 @@ use Rattle.step_printing.proofs.records.follow.Tie as tie
 few : (c : tie.At-match-keys2) → c .before .make .result .table .n ≤ 32
 few c = made-size _ _ _ (c .before .make .ensures) (c .match .keys2)
 
-part-print-threads-end : tie.Need-part-print-threads-end
-part-print-threads-end c = omega (arith, few (c .before .before .before .before .before))
+part-follow-first-end : tie.Need-part-follow-first-end
+part-follow-first-end c = omega (arith, few (c .before .before .before .before))
 
 part-store-end : tie.Need-part-store-end
-part-store-end c = omega (arith, few (c .before .before .before .before .before .before .before .before))
+part-store-end c = omega (arith, few (c .before .before .before .before .before .before .before))
 
 pub follow-spec : {M : Type 1} → statement M
 follow-spec =
@@ -32,10 +32,9 @@ follow-spec =
     (λ c. search needs)
     (λ c. search needs)
     (λ c κs. search needs)
-    (λ c κs. search needs)
     (λ c. search needs)
     (λ c. search needs)
-    part-print-threads-end
+    part-follow-first-end
     (λ c κs. search needs)
     (λ c. search needs)
     (λ c. search needs)
