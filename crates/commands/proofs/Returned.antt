@@ -21,7 +21,7 @@ use Rattle.scanning.proofs.Runs.{between-length, found-none, found-word}
 use Rattle.commands.specs.declared.Cursor.{Cursor}
 use Rattle.commands.specs.declared.Parts.{Parts}
 use Rattle.commands.specs.declared.Parsed.{Parsed}
-use Rattle.commands.specs.Standing.{progress, spelling, nothing, meant, Placed, Stands, Advanced, Parses, Letters, readOn, failing, asking, fromFirst}
+use Rattle.commands.specs.Standing.{progress, spelling, nothing, meant, Placed, Stands, Advanced, Parses, Letters, rowRoom, readOn, failing, asking, fromFirst}
 use Rattle.commands.proofs.Reading.{unless-none, unless-some, progress-stopped, progress-reached, between-none, reached-end, reached-word}
 
 -- ---- commands
@@ -90,7 +90,7 @@ letters-few table row start end l le = rw (between-length table start end (l .or
 -- its letters are those of the grammar
 pub letters-read : (line after table : List ℕ) (p : Progress) (row start end count : ℕ) (last : Cursor) → table ≡ grammar → Letters row start end → end ≤ length table
     → Advanced line after (readNumbers (between start end table) p) (count + 2 * length (between start end table)) last
-    → Advanced line after (readNumbers (numberLetters row) p) (count + 14) last
+    → Advanced line after (readNumbers (numberLetters row) p) (count + rowRoom) last
 letters-read line after table p row start end count last t l le a =
     let few = letters-few table row start end l le in
     let same : between start end table ≡ numberLetters row = rw t (l .are) in

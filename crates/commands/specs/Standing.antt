@@ -40,6 +40,19 @@ unfoldable pub meant : List ℕ → List ℕ → Parsed → Command
 meant line numbers r =
     unless (r .reason) (λ reason. wrong reason (between (r .start) (r .end) line)) (cond (eqb (r .row) nothing) skipped (asked (r .row) (take (r .count) numbers) (r .op)))
 
+-- ---- room for numbers, two for each that is read: its sign and its value
+-- for those of a row
+abbrev pub rowRoom : ℕ
+rowRoom = 14
+
+-- for those that may follow
+abbrev pub restRoom : ℕ
+restRoom = 4096
+
+-- for a line: more than twice those of a row, since `set` reads two rows, and those that may follow
+abbrev pub lineRoom : ℕ
+lineRoom = 4128
+
 -- ---- promises
 -- two places in order, within a line
 pub record Placed (line : List ℕ) (start end : ℕ) : Type 0 where

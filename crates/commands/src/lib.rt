@@ -7,7 +7,7 @@ ghost use Rattle.language.specs.Words.{words};
 ghost use Rattle.scanning.specs.Scanned.{between};
 ghost use Rattle.language.specs.Grammar.{grammar, rows, numberLetters};
 ghost use Rattle.language.specs.Commands.{readNumbers, readRest, readRow, readField, fromWords, commandOf, withParts, complete};
-ghost use Rattle.commands.specs.Standing.{progress, spelling, Stands, Advanced, Placed, Parses, failing, asking, fromFirst};
+ghost use Rattle.commands.specs.Standing.{progress, spelling, Stands, Advanced, Placed, Parses, rowRoom, restRoom, lineRoom, failing, asking, fromFirst};
 
 mod cursors;
 mod letters;
@@ -112,6 +112,9 @@ const FIELDS: usize = 12;
 // The most bytes of a line.
 const LINE_LIMIT: usize = 4095;
 
+// How many numbers a caller must have room for.
+pub const ROOM: usize = 4128;
+
 // What a line asks for: nothing, or a row with its numbers, as many as count, and its operation; or why it is no command, and which word is wrong.
 pub struct Parsed {
     pub reason: u8,
@@ -213,8 +216,8 @@ fn read_letters(
     requires { ⌜ now table ≡ grammar ⌝ }
     requires { ⌜ row < rows ⌝ }
     requires { ⌜ Stands (now line) cursor ⌝ }
-    requires { ⌜ cursor .count + 14 ≤ length (now numbers) ⌝ }
-    ensures { λ r. ⌜ Advanced (now (line .entry)) (now (numbers .exit)) (readNumbers (numberLetters row) (progress (now (line .entry)) (now (numbers .entry)) cursor)) (cursor .count + 14) r ⌝ }
+    requires { ⌜ cursor .count + rowRoom ≤ length (now numbers) ⌝ }
+    ensures { λ r. ⌜ Advanced (now (line .entry)) (now (numbers .exit)) (readNumbers (numberLetters row) (progress (now (line .entry)) (now (numbers .entry)) cursor)) (cursor .count + rowRoom) r ⌝ }
 {
     let from = letters_start(row);
     let to = letters_end(table, row);
@@ -226,7 +229,7 @@ fn read_rest(line: &[u8], table: &[u8], row: usize, cursor: Cursor, numbers: &mu
     requires { ⌜ now table ≡ grammar ⌝ }
     requires { ⌜ row < rows ⌝ }
     requires { ⌜ Stands (now line) cursor ⌝ }
-    requires { ⌜ cursor .count + 4096 ≤ length (now numbers) ⌝ }
+    requires { ⌜ cursor .count + restRoom ≤ length (now numbers) ⌝ }
     ensures { λ r. ⌜ Parses (now (line .entry)) (now (numbers .exit)) (readRest row (progress (now (line .entry)) (now (numbers .entry)) cursor)) r ⌝ }
 {
     let reason = cursor.reason;
@@ -252,7 +255,7 @@ fn read_row(line: &[u8], table: &[u8], row: usize, cursor: Cursor, numbers: &mut
     requires { ⌜ now table ≡ grammar ⌝ }
     requires { ⌜ row < rows ⌝ }
     requires { ⌜ Stands (now line) cursor ⌝ }
-    requires { ⌜ cursor .count + 4110 ≤ length (now numbers) ⌝ }
+    requires { ⌜ cursor .count + (rowRoom + restRoom) ≤ length (now numbers) ⌝ }
     ensures { λ r. ⌜ Parses (now (line .entry)) (now (numbers .exit)) (readRow row (progress (now (line .entry)) (now (numbers .entry)) cursor)) r ⌝ }
 {
     let last = read_letters(line, table, row, cursor, numbers);
@@ -263,7 +266,7 @@ fn read_row(line: &[u8], table: &[u8], row: usize, cursor: Cursor, numbers: &mut
 fn read_field(line: &[u8], table: &[u8], cursor: Cursor, numbers: &mut [u32]) -> Parsed
     requires { ⌜ now table ≡ grammar ⌝ }
     requires { ⌜ Stands (now line) cursor ⌝ }
-    requires { ⌜ cursor .count + 4110 ≤ length (now numbers) ⌝ }
+    requires { ⌜ cursor .count + (rowRoom + restRoom) ≤ length (now numbers) ⌝ }
     ensures { λ r. ⌜ Parses (now (line .entry)) (now (numbers .exit)) (readField (progress (now (line .entry)) (now (numbers .entry)) cursor)) r ⌝ }
 {
     let reason = cursor.reason;
@@ -294,7 +297,7 @@ fn read_field(line: &[u8], table: &[u8], cursor: Cursor, numbers: &mut [u32]) ->
 fn read_first(line: &[u8], table: &[u8], start: usize, end: usize, numbers: &mut [u32]) -> Parsed
     requires { ⌜ now table ≡ grammar ⌝ }
     requires { ⌜ Placed (now line) start end ⌝ }
-    requires { ⌜ 4128 ≤ length (now numbers) ⌝ }
+    requires { ⌜ lineRoom ≤ length (now numbers) ⌝ }
     ensures { λ r. ⌜ Parses (now (line .entry)) (now (numbers .exit)) (fromFirst (between start end (now (line .entry))) (words (drop end (now (line .entry))))) r ⌝ }
 {
     let row = find_row(table, &line[start..end], 0, FIRST_FIELD);
@@ -318,7 +321,7 @@ fn read_first(line: &[u8], table: &[u8], start: usize, end: usize, numbers: &mut
 // A line that is not too long, by its words.
 fn read_line(line: &[u8], table: &[u8], numbers: &mut [u32]) -> Parsed
     requires { ⌜ now table ≡ grammar ⌝ }
-    requires { ⌜ 4128 ≤ length (now numbers) ⌝ }
+    requires { ⌜ lineRoom ≤ length (now numbers) ⌝ }
     ensures { λ r. ⌜ Parses (now (line .entry)) (now (numbers .exit)) (fromWords (words (now (line .entry)))) r ⌝ }
 {
     let span = next_word(line, 0);
@@ -335,7 +338,7 @@ fn read_line(line: &[u8], table: &[u8], numbers: &mut [u32]) -> Parsed
 
 // Which command a line is.
 pub fn command(line: &[u8], numbers: &mut [u32]) -> Parsed
-    requires { ⌜ 4128 ≤ length (now numbers) ⌝ }
+    requires { ⌜ lineRoom ≤ length (now numbers) ⌝ }
     ensures { λ r. ⌜ Parses (now (line .entry)) (now (numbers .exit)) (commandOf (now (line .entry))) r ⌝ }
     ensures { λ _. ⌜ length (now (numbers .exit)) ≡ length (now (numbers .entry)) ⌝ }
 {

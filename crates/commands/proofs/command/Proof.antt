@@ -19,11 +19,17 @@ slice-aggregate-read-line c = sym (length-take-le _ _ ((c .before .before .befor
 -- the table is the grammar
 read-line-requires : tie.Need-read-line-requires
 unfolding grammar concat ascii upTo
-read-line-requires c κs = (refl, c .before .before .before .before .before .before .before .before .pre)
+read-line-requires c κs =
+    let entry = c .before .before .before .before .before .before .before .before in
+    (refl, entry .pre)
 
 -- the front is read
 returns-2 : tie.Need-returns-2
-returns-2 c = (line-short _ _ _ (c .before .before .before .before .before .before .before .before .without-return .ensures) _ (c .before .before .before .before .before .before .before .if1 .left) (c .before .before .read-line .ensures), search needs)
+returns-2 c =
+    let at-read-line = c .before .before in
+    let at-if1 = at-read-line .before .before .before .before .before in
+    let at-without-return = at-if1 .before in
+    (line-short _ _ _ (at-without-return .without-return .ensures) _ (at-if1 .if1 .left) (at-read-line .read-line .ensures), search needs)
 
 pub command-spec : {M : Type 1} → statement M
 command-spec = tie.close (tie.spec (λ c κs. search needs) (λ c κs. search needs) returns slice-aggregate-read-line read-line-requires (λ c. search needs) returns-2)

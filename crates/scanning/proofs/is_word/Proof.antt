@@ -3,8 +3,8 @@ use Prim.Native.Nat.{_-_, _≤_}
 use native.Mathlib.Omega.{arith}
 use lib.ListN.{length, drop}
 use borrow.Author.Needs.{needs}
-use Rattle.language.proofs.Words.{same-lengths}
 use Rattle.language.specs.Words.{sameWord}
+use Rattle.language.proofs.Words.{same-lengths}
 use Rattle.scanning.proofs.Compared.{same-byte, other-byte, same-ends}
 use Rattle.scanning.proofs.is_word.Statement.{statement}
 use Rattle.scanning.proofs.is_word.Tie as tie
@@ -27,11 +27,17 @@ loop-holds c = (search needs, refl)
 
 -- bytes that are not the same
 returns-2 : tie.Need-returns-2 Inv-loop μ-loop
-returns-2 c = sym (sym (c .before .before .before .before .loop .inv .1) ∙ other-byte _ _ _ (c .before .before .before .loop-test .taken) (omega arith) (c .if2 .taken))
+returns-2 c =
+    let at-loop-test = c .before .before .before in
+    let turn = at-loop-test .before in
+    sym (sym (turn .loop .inv .1) ∙ other-byte _ _ _ (at-loop-test .loop-test .taken) (omega arith) (c .if2 .taken))
 
 -- bytes that are
 loop-again : tie.Need-loop-again Inv-loop μ-loop
-loop-again c = (search needs, same-byte _ _ _ (c .before .before .before .loop-test .taken) (omega arith) (c .if2 .left) ∙ c .before .before .before .before .loop .inv .1)
+loop-again c =
+    let at-loop-test = c .before .before .before in
+    let turn = at-loop-test .before in
+    (search needs, same-byte _ _ _ (at-loop-test .loop-test .taken) (omega arith) (c .if2 .left) ∙ turn .loop .inv .1)
 
 -- nothing is left
 returns-3 : tie.Need-returns-3 Inv-loop μ-loop

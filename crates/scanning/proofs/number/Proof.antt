@@ -26,7 +26,10 @@ loop-holds c = digits-start _
 
 -- a byte that is no digit
 returns-2 : tie.Need-returns-2 Inv-loop μ-loop
-returns-2 c = digits-stop _ _ _ (c .before .before .before .before .loop .inv) (c .before .before .before .loop-test .taken) (sym (c .before .is-digit .ensures) ∙ not-true (c .before .is-digit .result) (c .if2 .taken))
+returns-2 c =
+    let at-loop-test = c .before .before .before in
+    let turn = at-loop-test .before in
+    digits-stop _ _ _ (turn .loop .inv) (at-loop-test .loop-test .taken) (sym (c .before .is-digit .ensures) ∙ not-true (c .before .is-digit .result) (c .if2 .taken))
 
 -- a digit
 with-digit-requires : tie.Need-with-digit-requires Inv-loop μ-loop
@@ -34,7 +37,11 @@ with-digit-requires c κs = (c .before .before .before .before .loop .inv .cappe
 
 -- one digit more
 loop-again : tie.Need-loop-again Inv-loop μ-loop
-loop-again c = digits-more _ _ _ (c .before .before .before .before .before .loop .inv) _ (c .before .before .before .before .loop-test .taken) (sym (c .before .before .is-digit .ensures) ∙ not-false (c .before .before .is-digit .result) (c .before .if2 .left)) (c .with-digit .ensures)
+loop-again c =
+    let at-is-digit = c .before .before in
+    let at-loop-test = at-is-digit .before .before in
+    let turn = at-loop-test .before in
+    digits-more _ _ _ (turn .loop .inv) _ (at-loop-test .loop-test .taken) (sym (at-is-digit .is-digit .ensures) ∙ not-false (at-is-digit .is-digit .result) (c .before .if2 .left)) (c .with-digit .ensures)
 
 -- every byte is a digit
 returns-3 : tie.Need-returns-3 Inv-loop μ-loop

@@ -28,7 +28,10 @@ same-length c = c .before .before .before .before .loop .inv .long
 
 -- no word is left
 returns : tie.Need-returns Inv-loop μ-loop
-returns c = more-end _ _ _ (c .before .before .before .before .loop .inv) _ _ (c .before .next-word .ensures) (c .before .before .if1 .taken) (c .if2 .taken)
+returns c =
+    let at-if1 = c .before .before in
+    let turn = at-if1 .before .before in
+    more-end _ _ _ (turn .loop .inv) _ _ (c .before .next-word .ensures) (at-if1 .if1 .taken) (c .if2 .taken)
 
 -- the slice keeps its length
 same-length-2 : tie.Need-same-length-2 Inv-loop μ-loop
@@ -36,15 +39,30 @@ same-length-2 c = c .before .before .before .before .before .loop .inv .long
 
 -- no more may follow
 returns-2 : tie.Need-returns-2 Inv-loop μ-loop
-returns-2 c = more-full _ _ _ (c .before .before .before .before .before .loop .inv) _ _ (c .before .before .next-word .ensures) (c .before .before .before .if1 .taken) (c .before .if2 .left) (c .if3 .taken)
+returns-2 c =
+    let at-next-word = c .before .before in
+    let at-if1 = at-next-word .before in
+    let turn = at-if1 .before .before in
+    more-full _ _ _ (turn .loop .inv) _ _ (at-next-word .next-word .ensures) (at-if1 .if1 .taken) (c .before .if2 .left) (c .if3 .taken)
 
 -- there is room for one number
 read-word-requires : tie.Need-read-word-requires Inv-loop μ-loop
-read-word-requires c κs = (record { ordered = c .before .before .before .next-word .ensures .ordered; within = c .before .before .before .next-word .ensures .within }, omega (arith, c .before .before .before .before .before .before .loop .inv .few, c .before .before .before .before .before .before .loop .inv .long, c .before .if3 .left, c .before .before .before .before .before .before .before .before .before .pre .1))
+read-word-requires c κs =
+    let at-next-word = c .before .before .before in
+    let turn = at-next-word .before .before .before in
+    let entry = turn .before .before .before in
+    (record { ordered = at-next-word .next-word .ensures .ordered; within = at-next-word .next-word .ensures .within }, omega (arith, turn .loop .inv .few, turn .loop .inv .long, c .before .if3 .left, entry .pre .1))
 
 -- one more
 loop-again : tie.Need-loop-again Inv-loop μ-loop
-loop-again c = more-word _ _ _ (c .before .before .before .before .before .before .before .before .before .loop .inv) _ _ (c .before .before .before .before .before .before .next-word .ensures) (c .before .before .before .before .before .before .before .if1 .taken) (c .before .before .before .before .before .if2 .left) (c .before .before .before .before .if3 .left) (c .before .before .read-word .ensures) (search needs)
+loop-again c =
+    let at-read-word = c .before .before in
+    let at-if3 = at-read-word .before .before in
+    let at-if2 = at-if3 .before in
+    let at-next-word = at-if2 .before in
+    let at-if1 = at-next-word .before in
+    let turn = at-if1 .before .before in
+    more-word _ _ _ (turn .loop .inv) _ _ (at-next-word .next-word .ensures) (at-if1 .if1 .taken) (at-if2 .if2 .left) (at-if3 .if3 .left) (at-read-word .read-word .ensures) (search needs)
 
 -- the slice keeps its length
 same-length-3 : tie.Need-same-length-3 Inv-loop μ-loop

@@ -21,11 +21,19 @@ loop-holds c = lettered-start _ _ _ _ (c .before .before .before .pre .0)
 
 -- there is room for one number
 read-number-requires : tie.Need-read-number-requires Inv-loop μ-loop
-read-number-requires c κs = (c .before .before .before .loop .inv .stands, omega (arith, c .before .before .before .loop .inv .few, c .before .before .before .loop .inv .long, c .before .before .loop-test .taken, c .before .before .before .before .before .before .before .pre .1))
+read-number-requires c κs =
+    let at-loop-test = c .before .before in
+    let turn = at-loop-test .before in
+    let entry = turn .before .before .before .before in
+    (turn .loop .inv .stands, omega (arith, turn .loop .inv .few, turn .loop .inv .long, at-loop-test .loop-test .taken, entry .pre .1))
 
 -- one letter more
 loop-again : tie.Need-loop-again Inv-loop μ-loop
-loop-again c = lettered-more _ _ (c .before .before .before .before .before .before .loop .inv) (c .before .before .before .before .before .loop-test .taken) (c .before .before .read-number .ensures) (search needs)
+loop-again c =
+    let at-read-number = c .before .before in
+    let at-loop-test = at-read-number .before .before .before in
+    let turn = at-loop-test .before in
+    lettered-more _ _ (turn .loop .inv) (at-loop-test .loop-test .taken) (at-read-number .read-number .ensures) (search needs)
 
 -- the slice keeps its length
 same-length : tie.Need-same-length Inv-loop μ-loop

@@ -11,19 +11,34 @@ returns c = measured-none _ _ (c .before .before .number .ensures) (not-true (c 
 
 -- one that is too large
 returns-2 : tie.Need-returns-2
-returns-2 c = measured-large _ _ (c .before .before .before .before .number .ensures) (not-false (c .before .before .before .before .number .result .digits) (c .before .before .if1 .left)) (rw (c .before .largest-of .ensures) at (c .if2 .taken))
+returns-2 c =
+    let at-if1 = c .before .before in
+    let at-number = at-if1 .before .before in
+    measured-large _ _ (at-number .number .ensures) (not-false (at-number .number .result .digits) (at-if1 .if1 .left)) (rw (c .before .largest-of .ensures) at (c .if2 .taken))
 
 -- one that is too small
 returns-3 : tie.Need-returns-3
-returns-3 c = measured-small _ _ (c .before .before .before .before .before .before .number .ensures) (not-false (c .before .before .before .before .before .before .number .result .digits) (c .before .before .before .before .if1 .left)) (rw (c .before .before .before .largest-of .ensures) at (c .before .before .if2 .left)) (rw (c .before .least-of .ensures) at (c .if3 .taken))
+returns-3 c =
+    let at-if2 = c .before .before in
+    let at-largest-of = at-if2 .before in
+    let at-if1 = at-largest-of .before in
+    let at-number = at-if1 .before .before in
+    measured-small _ _ (at-number .number .ensures) (not-false (at-number .number .result .digits) (at-if1 .if1 .left)) (rw (at-largest-of .largest-of .ensures) at (at-if2 .if2 .left)) (rw (c .before .least-of .ensures) at (c .if3 .taken))
 
 -- what is not above the largest fits
 cast-t7 : tie.Need-cast-t7
-cast-t7 c = omega (arith, largest-below (c .before .before .before .before .before .before .before .before .args .letter))
+cast-t7 c =
+    let entry = c .before .before .before .before .before .before .before .before in
+    omega (arith, largest-below (entry .args .letter))
 
 -- one that is neither
 returns-4 : tie.Need-returns-4
-returns-4 c = measured-fine _ _ (c .before .before .before .before .before .before .number .ensures) (not-false (c .before .before .before .before .before .before .number .result .digits) (c .before .before .before .before .if1 .left)) (rw (c .before .before .before .largest-of .ensures) at (c .before .before .if2 .left)) (rw (c .before .least-of .ensures) at (c .if3 .left))
+returns-4 c =
+    let at-if2 = c .before .before in
+    let at-largest-of = at-if2 .before in
+    let at-if1 = at-largest-of .before in
+    let at-number = at-if1 .before .before in
+    measured-fine _ _ (at-number .number .ensures) (not-false (at-number .number .result .digits) (at-if1 .if1 .left)) (rw (at-largest-of .largest-of .ensures) at (at-if2 .if2 .left)) (rw (c .before .least-of .ensures) at (c .if3 .left))
 
 pub measured-spec : {M : Type 1} → statement M
 measured-spec = tie.close (tie.spec (λ c κs. search needs) returns (λ c κs. search needs) returns-2 (λ c κs. search needs) returns-3 cast-t7 returns-4)

@@ -17,7 +17,9 @@ abbrev μ-loop : tie.MeasureT-loop
 
 -- all rows are left
 loop-holds : tie.Need-loop-holds Inv-loop μ-loop
-loop-holds c = let all : c .before .before .args .first + c .before .before .args .count - c .before .before .args .first ≡ c .before .before .args .count = omega arith in (search needs, rw all refl)
+loop-holds c =
+    let entry = c .before .before in
+    let all : entry .args .first + entry .args .count - entry .args .first ≡ entry .args .count = omega arith in (search needs, rw all refl)
 
 -- the row is one of the table
 is-name-requires : tie.Need-is-name-requires Inv-loop μ-loop

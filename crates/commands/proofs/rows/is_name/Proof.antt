@@ -1,5 +1,5 @@
-use mathlib.Core.Path.{_≡_, refl, sym, _∙_}
 use mathlib.Core.Bool.{true}
+use mathlib.Core.Path.{_≡_, refl, sym, _∙_}
 use Prim.Native.Nat.{_-_, _≤_}
 use native.Mathlib.Omega.{arith}
 use lib.Dec.{eqb}
@@ -27,7 +27,9 @@ loop-holds c = (search needs, refl)
 
 -- the table is handed on
 byte-of-row-requires : tie.Need-byte-of-row-requires Inv-loop μ-loop
-byte-of-row-requires c κs = (c .before .before .before .before .pre .0, (c .before .before .before .before .pre .1, omega arith))
+byte-of-row-requires c κs =
+    let entry = c .before .before .before .before in
+    (entry .pre .0, (entry .pre .1, omega arith))
 
 -- another byte
 returns : tie.Need-returns Inv-loop μ-loop
@@ -36,7 +38,10 @@ returns c = all-below-fails _ _ _ (c .before .before .before .loop-test .taken) 
 
 -- the same byte
 loop-again : tie.Need-loop-again Inv-loop μ-loop
-loop-again c = (search needs, all-below-more _ _ (c .before .before .before .before .loop .inv .1) (eq-eqb _ _ (sym (c .before .byte-or-space .ensures) ∙ c .if1 .left ∙ c .before .before .byte-of-row .ensures)))
+loop-again c =
+    let at-byte-of-row = c .before .before in
+    let turn = at-byte-of-row .before .before in
+    (search needs, all-below-more _ _ (turn .loop .inv .1) (eq-eqb _ _ (sym (c .before .byte-or-space .ensures) ∙ c .if1 .left ∙ at-byte-of-row .byte-of-row .ensures)))
 
 -- every column
 returns-2 : tie.Need-returns-2 Inv-loop μ-loop
