@@ -7,3 +7,4 @@ pub mod Lines
 pub mod Rows
 pub mod Records
 pub mod Schedules
+pub mod Ranges
