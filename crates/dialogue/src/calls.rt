@@ -2,9 +2,9 @@
 use crate::fields;
 use crate::sessions::Reply;
 use crate::sessions::Session;
-use crate::sessions::byte_at;
-use crate::sessions::number_at;
 use crate::sessions::only_text;
+use forcing::byte_at;
+use forcing::number_at;
 use model::Answer;
 use model::Operation;
 use model::Returned;

@@ -7,6 +7,7 @@ use crate::fields;
 use crate::reports;
 use crate::shows;
 use commands::Parsed;
+use forcing::byte_at;
 use model::Table;
 
 // What a dialogue keeps: a table, how many words are lent as a store, and how many records to the report.
@@ -37,27 +38,6 @@ pub fn only_text(session: Session, end: usize) -> Reply {
         session: session,
         end: end,
     }
-}
-
-// The number at a place of a list; 0 past its end.
-pub fn number_at(numbers: &[u32], i: usize) -> u32 {
-    if i < numbers.len() {
-        return numbers[i];
-    }
-    0
-}
-
-// The lesser of a number and 255.
-pub fn byte_of(number: u32) -> u8 {
-    if number < 256 {
-        return number as u8;
-    }
-    255
-}
-
-// The byte at a place of a list.
-pub fn byte_at(numbers: &[u32], i: usize) -> u8 {
-    byte_of(number_at(numbers, i))
 }
 
 // The commands that make a call.

@@ -2,8 +2,8 @@ use Prim.Native.Nat.{_-_, _≤_}
 use lib.ListN.{length}
 use mathlib.Core.Path.{_≡_}
 use borrow.Author.Needs.{needs}
-use Rattle.dialogue.proofs.fields.queue_of.Statement.{statement}
-use Rattle.dialogue.proofs.fields.queue_of.Tie as tie
+use Rattle.forcing.proofs.queue_of.Statement.{statement}
+use Rattle.forcing.proofs.queue_of.Tie as tie
 
 -- at most 32 places are filled
 abbrev Inv-loop : tie.InvT-loop

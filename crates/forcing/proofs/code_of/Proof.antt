@@ -1,8 +1,8 @@
 use native.Mathlib.Omega.{arith}
 use borrow.Author.Needs.{needs}
-use Rattle.dialogue.proofs.Negated.{small-negated}
-use Rattle.dialogue.proofs.fields.code_of.Statement.{statement}
-use Rattle.dialogue.proofs.fields.code_of.Tie as tie
+use Rattle.forcing.proofs.Negated.{small-negated}
+use Rattle.forcing.proofs.code_of.Statement.{statement}
+use Rattle.forcing.proofs.code_of.Tie as tie
 
 sub-result : tie.Need-sub-result
 sub-result c = small-negated (c .before .before .args .number) (omega (arith, c .before .if1 .left))
