@@ -2,13 +2,20 @@
 use mathlib.Core.Logic.{_≢_}
 use mathlib.Core.Path.{_≡_, refl, sym, _∙_, ap}
 use mathlib.Core.List.{List, [], _∷_}
-use Prim.Native.Nat.{ℕ, _<_}
+use Prim.Native.Nat.{ℕ, _≤_, _<_}
 use native.Mathlib.Omega.{arith}
+use lib.Dec.{eqb}
 use lib.ListN.{length, getD, replicate, length-replicate, getD-replicate}
-use borrow.Author.Tests.{eq-eqb, ne-eqb}
+use borrow.Author.Tests.{eq-eqb, ne-eqb, eqb-true, eqb-false}
+use Rattle.model.specs.declared.Operation.{Operation}
 use Rattle.model.specs.RecordBytes.{tickKind}
+use Rattle.model.proofs.Laws.{by}
 use Rattle.laws.proofs.Lists.{cond-true, cond-false}
+use Rattle.roundtrip.specs.Fits.{Bytes}
+use Rattle.roundtrip.proofs.Lists.{replicate-under}
+use Rattle.language.specs.Commands.{asked, commandOf}
 use Rattle.language.specs.RecordText.{threadsOf}
+use Rattle.spelling.proofs.Ranges.{numbers-bytes}
 
 module _ (kind : ℕ) (numbers : List ℕ) where
   -- a line that is no tick
@@ -48,3 +55,14 @@ module _ (kind : ℕ) (numbers : List ℕ) where
   -- the numbers of a line that is no tick are as many
   pub named-inside : kind ≢ tickKind → (i : ℕ) → i < length (threadsOf kind numbers) → i < length numbers
   named-inside other i inside = rw (named-threads other) at inside
+
+  -- a number of a line that is no tick is that thread
+  pub named-thread : kind ≢ tickKind → (i : ℕ) → getD numbers i 0 ≡ getD (threadsOf kind numbers) i 0
+  named-thread other i = sym (ap (λ (l : List ℕ). getD l i 0) (named-threads other))
+
+-- ---- the threads of a line are bytes
+pub threads-bytes : (line : List ℕ) (kind : ℕ) (numbers : List ℕ) (operation : Operation) → commandOf line ≡ asked kind numbers operation → kind ≤ tickKind → Bytes (threadsOf kind numbers)
+threads-bytes line kind numbers operation e low =
+    by (eqb kind tickKind)
+    (λ tick. rw (tick-threads kind numbers (eqb-true kind tickKind tick)) (replicate-under 256 (getD numbers 0 1) 0 (omega arith)))
+    (λ other. let different : kind ≢ tickKind = eqb-false kind tickKind other in rw (named-threads kind numbers different) (numbers-bytes line kind numbers operation e (omega (arith, different))))

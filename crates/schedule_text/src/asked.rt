@@ -1,8 +1,10 @@
 // The records that a line of a schedule stands for, by its row, its numbers and its operation.
 ghost use mathlib.Core.Path.{_≡_};
-ghost use Prim.Native.Nat.{_%_, _<_};
+ghost use Prim.Native.Nat.{_<_};
 ghost use lib.ListN.{length, getD};
+ghost use Rattle.roundtrip.specs.Fits.{Bytes};
 ghost use Rattle.language.specs.RecordText.{threadsOf};
+ghost use Rattle.schedule_text.specs.Steps.{recordFor};
 use model::Operation;
 use model::Record;
 use reading::TICK;
@@ -27,21 +29,23 @@ pub fn how_many(kind: u8, numbers: &[u32]) -> usize
     numbers[0] as usize
 }
 
-// The thread of record i of them, as a byte.
+// The thread of record i of them.
 fn thread_at(kind: u8, numbers: &[u32], i: usize) -> u8
     requires { ⌜ i < length (threadsOf kind (now numbers)) ⌝ }
-    ensures { λ r. ⌜ r ≡ getD (threadsOf kind (now (numbers .entry))) i 0 % 256 ⌝ }
+    requires { ⌜ Bytes (threadsOf kind (now numbers)) ⌝ }
+    ensures { λ r. ⌜ r ≡ getD (threadsOf kind (now (numbers .entry))) i 0 ⌝ }
 {
     if kind == TICK {
         return 0;
     }
-    (numbers[i] % 256) as u8
+    numbers[i] as u8
 }
 
 // Record i of them.
 pub fn record_at(kind: u8, op: Operation, numbers: &[u32], i: usize) -> Record
     requires { ⌜ i < length (threadsOf kind (now numbers)) ⌝ }
-    ensures { λ r. ⌜ r ≡ record { kind = kind; thread = getD (threadsOf kind (now (numbers .entry))) i 0 % 256; op = op } ⌝ }
+    requires { ⌜ Bytes (threadsOf kind (now numbers)) ⌝ }
+    ensures { λ r. ⌜ r ≡ recordFor kind op (getD (threadsOf kind (now (numbers .entry))) i 0) ⌝ }
 {
     let thread = thread_at(kind, numbers, i);
     Record {

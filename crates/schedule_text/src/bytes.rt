@@ -2,6 +2,11 @@
 ghost use mathlib.Core.Path.{_≡_};
 ghost use Prim.Native.Nat.{_+_, _≤_};
 ghost use lib.ListN.{length};
+ghost use Rattle.model.specs.Encoding.{lawfulRecord};
+ghost use Rattle.roundtrip.specs.Fits.{Bytes};
+ghost use Rattle.language.specs.Commands.{commandOf};
+ghost use Rattle.language.specs.RecordText.{threadsOf, recordsAsked, lawfulRow, recordsOf};
+ghost use Rattle.schedule_text.specs.Steps.{stepOf};
 use crate::asked::how_many;
 use crate::asked::no_numbers;
 use crate::asked::record_at;
@@ -13,6 +18,7 @@ use libc::STDOUT_FILENO;
 use line_input::fetch_line;
 use model::Answer;
 use model::Operation;
+use model::Record;
 use reading::BEGIN_BYTES;
 use reading::record_length;
 use replies::NOT_RECORD;
@@ -57,9 +63,23 @@ fn with_room(filled: usize, out: &[u8]) -> usize
     0
 }
 
-// Writes the records of a line out, gathered in a buffer; answers false at one that is refused.
-fn write_records(first: bool, kind: u8, op: Operation, numbers: &[u32], out: &mut [u8]) -> bool
+// Writes a record over the first bytes; answers whether it is lawful.
+fn put_lawful(first: bool, item: Record, out: &mut [u8]) -> bool
     requires { ⌜ 42 ≤ length (now out) ⌝ }
+    ensures { λ r. ⌜ r ≡ lawfulRecord first item ⌝ }
+{
+    let answer = write(first, item, out);
+    if let Answer::Refused(_) = answer {
+        return false;
+    }
+    true
+}
+
+// Writes the records of a line out, gathered in a buffer; answers whether they are lawful.
+fn write_records(first: bool, kind: u8, op: Operation, numbers: &[u32], out: &mut [u8]) -> bool
+    requires { ⌜ Bytes (threadsOf kind (now numbers)) ⌝ }
+    requires { ⌜ 42 ≤ length (now out) ⌝ }
+    ensures { λ r. ⌜ r ≡ lawfulRow first (recordsAsked kind (now (numbers .entry)) op) ⌝ }
 {
     let count = how_many(kind, numbers);
     let size = record_length(kind);
@@ -68,8 +88,7 @@ fn write_records(first: bool, kind: u8, op: Operation, numbers: &[u32], out: &mu
     while i < count {
         filled = with_room(filled, out);
         let item = record_at(kind, op, numbers, i);
-        let answer = write(first & (i == 0), item, &mut out[filled..]);
-        if let Answer::Refused(_) = answer {
+        if !put_lawful(first & (i == 0), item, &mut out[filled..]) {
             return false;
         }
         filled += size;
@@ -83,6 +102,7 @@ fn write_records(first: bool, kind: u8, op: Operation, numbers: &[u32], out: &mu
 fn write_line(n: u64, line: &[u8], first: bool, numbers: &mut [u32], out: &mut [u8]) -> Step
     requires { ⌜ 4128 ≤ length (now numbers) ⌝ }
     requires { ⌜ 42 ≤ length (now out) ⌝ }
+    ensures { λ r. ⌜ r ≡ stepOf first (recordsOf first (commandOf (now (line .entry)))) ⌝ }
 {
     let parsed = command(line, numbers);
     let reason = parsed.reason;
@@ -102,10 +122,12 @@ fn write_line(n: u64, line: &[u8], first: bool, numbers: &mut [u32], out: &mut [
     }
     let count = parsed.count;
     let op = parsed.op;
-    if write_records(first, row, op, &numbers[0..count], out) {
+    let named = &numbers[0..count];
+    let many = how_many(row, named);
+    if write_records(first, row, op, named, out) {
         return Step {
             good: true,
-            first: false,
+            first: first & (many == 0),
         };
     }
     say_first(n, TABLE_FIRST, line);

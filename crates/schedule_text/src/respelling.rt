@@ -1,6 +1,6 @@
 // A record through its line and back.
-ghost use mathlib.Core.Path.{_≡_};
-ghost use lib.ListN.{length};
+ghost use Rattle.roundtrip.specs.Fits.{Bytes};
+ghost use Rattle.language.specs.RecordText.{threadsOf};
 use crate::asked::how_many;
 use crate::asked::no_numbers;
 use crate::asked::record_at;
@@ -33,7 +33,9 @@ fn same_front(a: &[u8], b: &[u8], n: usize) -> bool {
 }
 
 // A line of a schedule stands for one record, which is written as the first of these bytes.
-fn writes_one(first: bool, kind: u8, op: Operation, numbers: &[u32], bytes: &[u8]) -> bool {
+fn writes_one(first: bool, kind: u8, op: Operation, numbers: &[u32], bytes: &[u8]) -> bool
+    requires { ⌜ Bytes (threadsOf kind (now numbers)) ⌝ }
+{
     if how_many(kind, numbers) != 1 {
         return false;
     }

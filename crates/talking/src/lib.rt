@@ -1,4 +1,7 @@
 // What program console does, with any descriptor as its input: each line is answered before the next is read, in constant memory.
+mod same;
+mod watching;
+
 ghost use mathlib.Core.Path.{_≡_};
 ghost use Prim.Native.Nat.{_≤_};
 ghost use lib.ListN.{length};

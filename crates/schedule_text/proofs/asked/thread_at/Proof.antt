@@ -1,27 +1,30 @@
-use mathlib.Core.Path.{sym, ap}
-use Prim.Native.Nat.{ℕ, _%_, _<_}
+use mathlib.Core.Path.{sym}
+use Prim.Native.Nat.{_<_}
 use native.Mathlib.Omega.{arith}
-use lib.ListN.{length, getD}
+use lib.ListN.{length}
 use borrow.Author.Needs.{needs}
-use Rattle.schedule_text.proofs.Named.{named-threads, named-inside, tick-thread}
+use Rattle.schedule_text.proofs.Named.{named-thread, named-inside, tick-thread}
 use Rattle.schedule_text.proofs.asked.thread_at.Statement.{statement}
 use Rattle.schedule_text.proofs.asked.thread_at.Tie as tie
 
 returns : tie.Need-returns
-returns c = let entry = c .before in sym (ap (λ (n : ℕ). n % 256) (tick-thread _ _ (c .if1 .taken) _ (entry .pre)))
+returns c = sym (tick-thread _ _ (c .if1 .taken) _ (c .before .pre .0))
 
 -- a line that is no tick has the number
 inside : (c : tie.Else1) → c .before .args .i < length (c .before .args .numbers .now)
-inside c = named-inside _ _ (c .if1 .left) _ (c .before .pre)
+inside c = named-inside _ _ (c .if1 .left) _ (c .before .pre .0)
 
 mul-result : tie.Need-mul-result
 mul-result c = let h = inside c in search needs
 
-shared-slice-read-result : tie.Need-shared-slice-read-result
-shared-slice-read-result c = inside (c .before)
+cast-result : tie.Need-cast-result
+cast-result c =
+    let other = c .before in
+    let entry = other .before in
+    omega (arith, named-thread (entry .args .kind) (entry .args .numbers .now) (other .if1 .left) (entry .args .i), entry .pre .1 (entry .args .i))
 
 returns-2 : tie.Need-returns-2
-returns-2 c = rw (named-threads _ _ (c .before .if1 .left)) (search needs)
+returns-2 c = named-thread _ _ (c .before .if1 .left) _
 
 pub thread-at-spec : {M : Type 1} → statement M
-thread-at-spec = tie.close (tie.spec returns mul-result shared-slice-read-result (λ c. search needs) returns-2)
+thread-at-spec = tie.close (tie.spec returns mul-result (λ c. inside (c .before)) cast-result returns-2)

@@ -1,12 +1,10 @@
 // What a refused line changed, told: nothing, as every public call promises.
-mod same;
-
+use crate::same::kept_records;
+use crate::same::same_store;
+use crate::same::same_table;
 use dialogue::Session;
 use libc::STDOUT_FILENO;
 use model::Answer;
-use same::kept_records;
-use same::same_store;
-use same::same_table;
 
 // Whether an answer is one line, `refused` and its number.
 fn is_refusal(answer: &[u8]) -> bool {

@@ -1,27 +1,27 @@
 use Prim.Native.Nat.{_-_, _≤_}
 use borrow.Author.Needs.{needs}
-use Rattle.watching.proofs.same.same_store.Statement.{statement}
-use Rattle.watching.proofs.same.same_store.Tie as tie
+use Rattle.talking.proofs.same.kept_records.Statement.{statement}
+use Rattle.talking.proofs.same.kept_records.Tie as tie
 
--- at most 320 words are compared
+-- at most 40 records are compared
 abbrev Inv-loop : tie.InvT-loop
-Inv-loop a b i₀ i = i ≤ 320
+Inv-loop records before i₀ i = i ≤ 40
 
 -- how many are left
 abbrev μ-loop : tie.MeasureT-loop
-μ-loop a b i₀ i = 320 - i
+μ-loop records before i₀ i = 40 - i
 
-pub same-store-spec : {M : Type 1} → statement M
-same-store-spec =
+pub kept-records-spec : {M : Type 1} → statement M
+kept-records-spec =
     tie.close
     (tie.spec
     Inv-loop
     μ-loop
+    (λ c κs. search needs)
     (λ c. search needs)
     (λ c. search needs)
     (λ c. search needs)
-    (λ c. search needs)
-    (λ c. search needs)
+    (λ c κs. search needs)
     (λ c. search needs)
     (λ c. search needs)
     (λ c. search needs)
