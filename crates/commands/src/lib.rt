@@ -115,6 +115,13 @@ const LINE_LIMIT: usize = 4095;
 // How many numbers a caller must have room for.
 pub const ROOM: usize = 4128;
 
+// Room for the numbers of a line, none read yet.
+pub fn no_numbers() -> [u32; 4128]
+    ensures { λ r. ⌜ lineRoom ≡ length r ⌝ }
+{
+    [0; ROOM]
+}
+
 // What a line asks for: nothing, or a row with its numbers, as many as count, and its operation; or why it is no command, and which word is wrong.
 pub struct Parsed {
     pub reason: u8,

@@ -9,13 +9,6 @@ use model::Operation;
 use model::Record;
 use reading::TICK;
 
-// The numbers that a line can hold, all zero.
-pub fn no_numbers() -> [u32; 4128]
-    ensures { λ r. ⌜ 4128 ≡ length r ⌝ }
-{
-    [0; 4128]
-}
-
 // How many records a line stands for: a tick as many as its number says, or one; every other line one for each number.
 pub fn how_many(kind: u8, numbers: &[u32]) -> usize
     ensures { λ r. ⌜ r ≡ length (threadsOf kind (now (numbers .entry))) ⌝ }

@@ -2,10 +2,10 @@
 ghost use Rattle.roundtrip.specs.Fits.{Bytes};
 ghost use Rattle.language.specs.RecordText.{threadsOf};
 use crate::asked::how_many;
-use crate::asked::no_numbers;
 use crate::asked::record_at;
 use commands::TICK_ROW;
 use commands::command;
+use commands::no_numbers;
 use model::Answer;
 use model::Operation;
 use model::Record;

@@ -1,6 +1,8 @@
 // What changed of one thread, a few words for each change: phase, mark, lock, queue, ticks left, outcome, words.
 use crate::names::put_code_name;
 use crate::names::put_phase_name;
+use comparing::same_outcome;
+use comparing::same_queue;
 use model::Outcome;
 use model::Queue;
 use model::Thread;
@@ -75,24 +77,6 @@ fn tell_lock(out: &mut [u8], told: Told, x: u8, before: u8, after: u8) -> Told {
     one_more(told, end)
 }
 
-// Whether two queues hold the same senders.
-fn same_queue(a: Queue, b: Queue) -> bool {
-    let v = a.items;
-    let w = b.items;
-    let len = a.len as usize;
-    if a.len != b.len {
-        return false;
-    }
-    let mut i: usize = 0;
-    while i < 32 {
-        if (i < len) & (v[i] != w[i]) {
-            return false;
-        }
-        i += 1;
-    }
-    true
-}
-
 // Who waits now.
 fn tell_queue(out: &mut [u8], told: Told, x: u8, before: Queue, after: Queue) -> Told {
     if same_queue(before, after) {
@@ -133,11 +117,6 @@ fn put_outcome(out: &mut [u8], start: usize, outcome: Outcome, words: &[u32]) ->
     }
     let colon = put_text(out, sourced, b":");
     put_words(out, colon, words)
-}
-
-// Whether two outcomes are the same.
-fn same_outcome(a: Outcome, b: Outcome) -> bool {
-    (a.code == b.code) & (a.source == b.source) & (a.count == b.count)
 }
 
 // How the latest operation stands now.

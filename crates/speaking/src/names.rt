@@ -1,59 +1,94 @@
 // Phases, codes and refusals by name, and the call that a record was.
 use model::Answer;
 use model::Record;
+use scanning::line_end;
 use text::put_answer;
 use text::put_byte;
 use text::put_number;
 use text::put_text;
 
+// Entry k of a list, counted from 0, of which each ends with its line; nothing past the last.
+fn put_entry(out: &mut [u8], start: usize, list: &[u8], k: usize) -> usize {
+    let mut from: usize = 0;
+    let mut i: usize = 0;
+    while i < k {
+        let end = line_end(list, from);
+        if end == list.len() {
+            return start;
+        }
+        from = end + 1;
+        i += 1;
+    }
+    let end = line_end(list, from);
+    put_text(out, start, &list[from..end])
+}
+
 // A phase by its name.
 pub fn put_phase_name(out: &mut [u8], start: usize, phase: u8) -> usize {
-    match phase {
-        threads::IDLE => put_text(out, start, b"idle"),
-        threads::LOCK => put_text(out, start, b"lock"),
-        threads::CHECK => put_text(out, start, b"check"),
-        threads::COPY => put_text(out, start, b"copy"),
-        threads::RELEASE => put_text(out, start, b"release"),
-        threads::SLEEP => put_text(out, start, b"sleep"),
-        threads::LOOK => put_text(out, start, b"look"),
-        threads::WAKE => put_text(out, start, b"wake"),
-        threads::UNLOCK => put_text(out, start, b"unlock"),
-        _ => put_text(out, start, b"no phase"),
+    let names = b"\
+idle
+lock
+check
+copy
+release
+sleep
+look
+wake
+unlock
+";
+    put_entry(out, start, names, phase as usize)
+}
+
+// The place of a code in document 01's list; past its end for any other.
+fn code_place(code: i32) -> usize {
+    match code {
+        threads::DONE => 0,
+        threads::RUNNING => 1,
+        threads::NEVER_BEGUN => 2,
+        threads::NO_RECEIVER => 3,
+        threads::RECEIVE_TIME_OVER => 4,
+        threads::SEND_TIME_OVER => 5,
+        threads::RECEIVE_CANCELLED => 6,
+        threads::SEND_CANCELLED => 7,
+        _ => 8,
     }
 }
 
 // A code by its name.
 pub fn put_code_name(out: &mut [u8], start: usize, code: i32) -> usize {
-    match code {
-        threads::DONE => put_text(out, start, b"done"),
-        threads::RUNNING => put_text(out, start, b"running"),
-        threads::NEVER_BEGUN => put_text(out, start, b"never begun"),
-        threads::NO_RECEIVER => put_text(out, start, b"receiver does not exist"),
-        threads::RECEIVE_TIME_OVER => put_text(out, start, b"receive time over"),
-        threads::SEND_TIME_OVER => put_text(out, start, b"send time over"),
-        threads::RECEIVE_CANCELLED => put_text(out, start, b"receive cancelled"),
-        threads::SEND_CANCELLED => put_text(out, start, b"send cancelled"),
-        _ => put_text(out, start, b"no code"),
-    }
+    let names = b"\
+done
+running
+never begun
+receiver does not exist
+receive time over
+send time over
+receive cancelled
+send cancelled
+";
+    put_entry(out, start, names, code_place(code))
 }
 
-// What a refusal means.
-pub fn put_meaning(out: &mut [u8], start: usize, number: u8) -> usize {
-    match number {
-        1 => put_text(out, start, b" (N is 0 or above 32)"),
-        2 => put_text(out, start, b" (the table is not well-formed)"),
-        3 => put_text(out, start, b" (no such thread)"),
-        4 => put_text(out, start, b" (its lock is owned)"),
-        5 => put_text(out, start, b" (it is not idle)"),
-        6 => put_text(out, start, b" (neither part)"),
-        7 => put_text(out, start, b" (with itself)"),
-        8 => put_text(out, start, b" (no such partner)"),
-        9 => put_text(out, start, b" (more than 8 words)"),
-        10 => put_text(out, start, b" (no such time code)"),
-        11 => put_text(out, start, b" (wrong store or records)"),
-        12 => put_text(out, start, b" (no lawful record)"),
-        _ => start,
-    }
+// What a refusal means, by its number.
+fn put_meaning(out: &mut [u8], start: usize, number: u8) -> usize {
+    let meanings = b"\
+
+N is 0 or above 32
+the table is not well-formed
+no such thread
+its lock is owned
+it is not idle
+neither part
+with itself
+no such partner
+more than 8 words
+no such time code
+wrong store or records
+no lawful record
+";
+    let opened = put_text(out, start, b" (");
+    let told = put_entry(out, opened, meanings, number as usize);
+    put_text(out, told, b")")
 }
 
 // An answer, a refusal with its meaning.

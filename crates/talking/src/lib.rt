@@ -11,13 +11,6 @@ use libc::STDOUT_FILENO;
 // So many lines are counted: as many as 64 bits can, which no input comes near.
 const MOST_LINES: u64 = u64::MAX;
 
-// The numbers of a line, none read yet.
-fn no_numbers() -> [u32; 4128]
-    ensures { λ r. ⌜ 4128 ≡ length r ⌝ }
-{
-    [0; 4128]
-}
-
 // What is kept from one line to the next: the session, and the words that its store is lent from.
 struct Standing {
     session: Session,
@@ -64,7 +57,7 @@ pub fn talk(input: i32, watched: bool) {
     let buffer: &mut [u8] = &mut space;
     let mut text = io::large_buffer();
     let out: &mut [u8] = &mut text;
-    let mut read = no_numbers();
+    let mut read = commands::no_numbers();
     let numbers: &mut [u32] = &mut read;
     let mut standing = at_first();
     let mut feed = line_input::unread();

@@ -1,7 +1,7 @@
 // What a refused line changed, told: nothing, as every public call promises.
 use crate::same::kept_records;
 use crate::same::same_store;
-use crate::same::same_table;
+use comparing::same_table;
 use dialogue::Session;
 use libc::STDOUT_FILENO;
 use model::Answer;

@@ -2,8 +2,8 @@ use Prim.Native.Nat.{_≤_, _-_}
 use mathlib.Core.Path.{_≡_}
 use borrow.Author.Needs.{needs}
 use lib.ListN.{length}
-use Rattle.talking.proofs.same.same_queue.Statement.{statement}
-use Rattle.talking.proofs.same.same_queue.Tie as tie
+use Rattle.comparing.proofs.same_queue.Statement.{statement}
+use Rattle.comparing.proofs.same_queue.Tie as tie
 
 abbrev Inv-loop : tie.InvT-loop
 Inv-loop v w len i₀ i = (i ≤ 32) × (length v ≡ 32) × (length w ≡ 32)

@@ -2,8 +2,8 @@ use Prim.Native.Nat.{_≤_, _-_}
 use mathlib.Core.Path.{_≡_}
 use lib.ListN.{length}
 use borrow.Author.Needs.{needs}
-use Rattle.talking.proofs.same.same_words.Statement.{statement}
-use Rattle.talking.proofs.same.same_words.Tie as tie
+use Rattle.comparing.proofs.same_words.Statement.{statement}
+use Rattle.comparing.proofs.same_words.Tie as tie
 
 abbrev Inv-loop : tie.InvT-loop
 Inv-loop a b i₀ i = (i ≤ 8) × (length a ≡ 8) × (length b ≡ 8)

@@ -1,7 +1,7 @@
 use Prim.Native.Nat.{_≤_, _-_}
 use borrow.Author.Needs.{needs}
-use Rattle.talking.proofs.same.same_table.Statement.{statement}
-use Rattle.talking.proofs.same.same_table.Tie as tie
+use Rattle.comparing.proofs.same_table.Statement.{statement}
+use Rattle.comparing.proofs.same_table.Tie as tie
 
 abbrev Inv-loop : tie.InvT-loop
 Inv-loop a b i₀ i = i ≤ 32
