@@ -4,16 +4,18 @@ ghost use Prim.Native.Nat.{_<_};
 ghost use lib.ListN.{length, getD};
 ghost use Rattle.roundtrip.specs.Fits.{Bytes};
 ghost use Rattle.language.specs.RecordText.{threadsOf};
+ghost use Rattle.commands.specs.Standing.{lineRoom};
 ghost use Rattle.schedule_text.specs.Steps.{recordFor};
+use commands::ROOM;
 use model::Operation;
 use model::Record;
 use reading::TICK;
 
 // The numbers that a line can hold, all zero.
-pub fn no_numbers() -> [u32; 4128]
-    ensures { λ r. ⌜ 4128 ≡ length r ⌝ }
+pub fn no_numbers() -> [u32; ROOM]
+    ensures { λ r. ⌜ lineRoom ≡ length r ⌝ }
 {
-    [0; 4128]
+    [0; ROOM]
 }
 
 // How many records a line stands for: a tick as many as its number says, or one; every other line one for each number.
