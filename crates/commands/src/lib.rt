@@ -116,7 +116,7 @@ const LINE_LIMIT: usize = 4095;
 pub const ROOM: usize = 4128;
 
 // Room for the numbers of a line, none read yet.
-pub fn no_numbers() -> [u32; 4128]
+pub fn no_numbers() -> [u32; ROOM]
     ensures { λ r. ⌜ lineRoom ≡ length r ⌝ }
 {
     [0; ROOM]

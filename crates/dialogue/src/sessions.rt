@@ -2,6 +2,7 @@
 ghost use mathlib.Core.Path.{_≡_};
 ghost use Prim.Native.Nat.{_≤_};
 ghost use lib.ListN.{length};
+ghost use Rattle.commands.specs.Standing.{lineRoom};
 use crate::calls;
 use crate::fields;
 use crate::reports;
@@ -116,7 +117,7 @@ pub fn respond(
     store: &mut [u32],
     out: &mut [u8],
 ) -> Reply
-    requires { ⌜ 4128 ≤ length (now numbers) ⌝ }
+    requires { ⌜ lineRoom ≤ length (now numbers) ⌝ }
 {
     let command = commands::command(line, numbers);
     if command.reason != 0 {

@@ -2,6 +2,7 @@
 ghost use mathlib.Core.Path.{_≡_};
 ghost use Prim.Native.Nat.{_≤_};
 ghost use lib.ListN.{length};
+ghost use Rattle.model.specs.Decoding.{decode};
 ghost use Rattle.record_input.specs.Places.{Within, Places};
 use libc::STDOUT_FILENO;
 use model::Answer;
@@ -71,6 +72,7 @@ fn unread(input: i32, buffer: &mut [u8], left: Span) -> Span
 fn take(first: bool, bytes: &[u8]) -> Taken
     ensures { λ r. ⌜ r .length ≤ length (now (bytes .entry)) ⌝ }
     ensures { λ r. ⌜ r .length ≤ 42 ⌝ }
+    ensures { λ r. ⌜ r .item ≡ decode first (now (bytes .entry)) ⌝ }
 {
     let decoded = reading::read(first, bytes);
     let answer = decoded.answer;
@@ -94,7 +96,7 @@ fn take(first: bool, bytes: &[u8]) -> Taken
 pub fn next_record(input: i32, buffer: &mut [u8], before: Span, first: bool) -> Next
     requires { ⌜ Within (length (now buffer)) before ⌝ }
     ensures { λ _. ⌜ length (now (buffer .exit)) ≡ length (now (buffer .entry)) ⌝ }
-    ensures { λ r. ⌜ Places (length (now (buffer .exit))) r ⌝ }
+    ensures { λ r. ⌜ Places first (now (buffer .exit)) r ⌝ }
 {
     let rest = unread(input, buffer, before);
     let start = rest.start;

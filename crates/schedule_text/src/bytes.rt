@@ -6,6 +6,7 @@ ghost use Rattle.model.specs.Encoding.{lawfulRecord};
 ghost use Rattle.roundtrip.specs.Fits.{Bytes};
 ghost use Rattle.language.specs.Commands.{commandOf};
 ghost use Rattle.language.specs.RecordText.{threadsOf, recordsAsked, lawfulRow, recordsOf};
+ghost use Rattle.commands.specs.Standing.{lineRoom};
 ghost use Rattle.schedule_text.specs.Steps.{stepOf};
 use crate::asked::how_many;
 use crate::asked::record_at;
@@ -100,7 +101,7 @@ fn write_records(first: bool, kind: u8, op: Operation, numbers: &[u32], out: &mu
 
 // Writes the records of line n out, told whether they are the first; or says why it has none.
 fn write_line(n: u64, line: &[u8], first: bool, numbers: &mut [u32], out: &mut [u8]) -> Step
-    requires { ⌜ 4128 ≤ length (now numbers) ⌝ }
+    requires { ⌜ lineRoom ≤ length (now numbers) ⌝ }
     requires { ⌜ 42 ≤ length (now out) ⌝ }
     ensures { λ r. ⌜ r ≡ stepOf first (recordsOf first (commandOf (now (line .entry)))) ⌝ }
 {
@@ -136,7 +137,7 @@ fn write_line(n: u64, line: &[u8], first: bool, numbers: &mut [u32], out: &mut [
 
 // Writes the records of the lines that a descriptor delivers out, through a buffer for lines, one for numbers and one for bytes.
 fn write_lines(input: i32, buffer: &mut [u8], numbers: &mut [u32], out: &mut [u8])
-    requires { ⌜ 4128 ≤ length (now numbers) ⌝ }
+    requires { ⌜ lineRoom ≤ length (now numbers) ⌝ }
     requires { ⌜ 42 ≤ length (now out) ⌝ }
 {
     let mut feed = line_input::unread();

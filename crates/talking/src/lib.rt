@@ -5,6 +5,7 @@ mod watching;
 ghost use mathlib.Core.Path.{_≡_};
 ghost use Prim.Native.Nat.{_≤_};
 ghost use lib.ListN.{length};
+ghost use Rattle.commands.specs.Standing.{lineRoom};
 use dialogue::Session;
 use libc::STDOUT_FILENO;
 
@@ -34,7 +35,7 @@ fn answer_line(
     out: &mut [u8],
     watched: bool,
 ) -> Standing
-    requires { ⌜ 4128 ≤ length (now numbers) ⌝ }
+    requires { ⌜ lineRoom ≤ length (now numbers) ⌝ }
     ensures { λ _. ⌜ length (now (numbers .exit)) ≡ length (now (numbers .entry)) ⌝ }
 {
     let session = before.session;

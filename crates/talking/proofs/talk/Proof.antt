@@ -1,6 +1,7 @@
 use mathlib.Core.Path.{_≡_}
 use Prim.Native.Nat.{_-_, _≤_}
 use lib.ListN.{length}
+use Rattle.commands.specs.Standing.{lineRoom}
 use Rattle.line_input.specs.Fed.{Fed}
 use borrow.Author.Needs.{needs}
 use Rattle.talking.proofs.talk.Statement.{statement}
@@ -8,7 +9,7 @@ use Rattle.talking.proofs.talk.Tie as tie
 
 -- the bytes that are not used yet lie in the buffer, and no length has changed
 abbrev Inv-loop : tie.InvT-loop
-Inv-loop input watched buffer₀ out₀ numbers₀ standing₀ feed₀ line₀ buffer out numbers standing feed line = Fed (length buffer) feed × (length buffer ≡ 65536) × (4128 ≤ length numbers)
+Inv-loop input watched buffer₀ out₀ numbers₀ standing₀ feed₀ line₀ buffer out numbers standing feed line = Fed (length buffer) feed × (length buffer ≡ 65536) × (lineRoom ≤ length numbers)
 
 -- how many lines can still be counted
 abbrev μ-loop : tie.MeasureT-loop
