@@ -72,7 +72,7 @@ send cancelled
 // What a refusal means, by its number.
 fn put_meaning(out: &mut [u8], start: usize, number: u8) -> usize {
     let meanings = b"\
-
+no refusal
 N is 0 or above 32
 the table is not well-formed
 no such thread
