@@ -1,4 +1,8 @@
-// Prints, after each record of the schedule on standard input, the call's answer and every field in use of every thread.
+// Prints, after each record of the schedule on standard input, the call's answer and every field in use of every thread; with the argument `words`, what the record was and what
+// it changed, in words.
 fn main() {
-    step_printing::follow(libc::STDIN_FILENO, false);
+    let mut argument = io::buffer();
+    let n = os::arg(1, &mut argument);
+    let spoken = scanning::is_word(&argument[..n], b"words");
+    step_printing::follow(libc::STDIN_FILENO, spoken);
 }

@@ -1,6 +1,8 @@
-// Plays the schedules that its arguments name as bondtrace does, those behind the word `steps` as steptrace does, those behind the word `words` as stepwords
-// does, and those behind the word `texts` through their text and back.
+// Plays the schedules that its arguments name as bondtrace does, those behind the word `steps` as steptrace does, those behind the word `words` as it does
+// in words, and those behind the word `texts` through their text and back. Last it tries what no schedule and no line of the console can say.
+mod cases;
 mod texts;
+mod trying;
 
 use libc::STDOUT_FILENO;
 
@@ -52,7 +54,8 @@ fn play_named(name: &[u8], mode: u8) {
     libc::close(input);
 }
 
-fn main() {
+// Plays the schedules that the arguments name.
+fn play_all() {
     let mut word = io::buffer();
     let count = os::arg_count();
     let mut mode = ENDS;
@@ -64,4 +67,9 @@ fn main() {
         play_named(name, mode);
         i += 1;
     }
+}
+
+fn main() {
+    play_all();
+    trying::try_all();
 }

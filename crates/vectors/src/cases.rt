@@ -1,0 +1,91 @@
+// The cases: ten numbers each. The first two say what else is given, the others stand where a begin record has them, from its kind on.
+use model::Operation;
+use reading::COUNT;
+use reading::FIRST_WORD;
+
+// A number of a case.
+pub fn number(case: &[u8], i: usize) -> u8 {
+    if i < case.len() {
+        return case[i];
+    }
+    0
+}
+
+// A byte of the begin record: a number of the case, or one of its words' bytes, which are 1, 2, 3 and so on.
+fn spelled(case: &[u8], i: u8) -> u8 {
+    let at = i as usize;
+    if at < FIRST_WORD {
+        return number(case, at);
+    }
+    if at < FIRST_WORD + 4 * (number(case, COUNT) as usize) {
+        return i - 9;
+    }
+    0
+}
+
+// The operation of a case, lawful or not.
+pub fn operation(case: &[u8]) -> Operation {
+    let mut bytes = [0u8; 42];
+    let mut i: usize = 0;
+    while i < 42 {
+        bytes[i] = spelled(case, i as u8);
+        i += 1;
+    }
+    reading::operation_at(&bytes)
+}
+
+// Begins without a send part: on a new table, and where the thread copies.
+pub fn without_send() -> [[u8; 10]; 4] {
+    [
+        // no part, to 1, code 15
+        [0, 0, 1, 0, 0, 1, 0, 0, 15, 0],
+        // open receive, to itself, nine words, code 16
+        [0, 0, 1, 0, 6, 0, 0, 9, 16, 15],
+        // no part, to itself, nine words, code 16; copying
+        [1, 0, 1, 0, 0, 0, 0, 9, 16, 0],
+        // the same, idle
+        [0, 0, 1, 0, 0, 0, 0, 9, 16, 0],
+    ]
+}
+
+// Records.
+pub fn records() -> [[u8; 10]; 18] {
+    [
+        // table, first
+        [1, 44, 0, 2, 0, 0, 0, 0, 0, 0],
+        // table, later
+        [0, 44, 0, 2, 0, 0, 0, 0, 0, 0],
+        // table into 3 bytes
+        [1, 3, 0, 2, 0, 0, 0, 0, 0, 0],
+        // table into 4 bytes
+        [1, 4, 0, 2, 0, 0, 0, 0, 0, 0],
+        // send of nine words, code 99
+        [0, 44, 1, 200, 1, 255, 0, 9, 99, 0],
+        // send of two words
+        [0, 44, 1, 2, 1, 1, 0, 2, 15, 0],
+        // call, closed on 3
+        [0, 44, 1, 2, 3, 1, 3, 0, 4, 5],
+        // open receive
+        [0, 42, 1, 2, 6, 0, 0, 0, 0, 15],
+        // begin into 41 bytes
+        [0, 41, 1, 2, 6, 0, 0, 0, 0, 15],
+        // begin, first
+        [1, 44, 1, 2, 6, 0, 0, 0, 0, 15],
+        // begin of no part
+        [0, 44, 1, 2, 0, 0, 0, 0, 0, 0],
+        // begin with a target and no send part
+        [0, 44, 1, 2, 2, 1, 3, 0, 0, 5],
+        // step
+        [0, 44, 2, 31, 0, 0, 0, 0, 0, 0],
+        // step with an operation
+        [0, 44, 2, 31, 6, 0, 0, 0, 0, 15],
+        // cancel
+        [0, 5, 3, 255, 0, 0, 0, 0, 0, 0],
+        // tick
+        [0, 44, 4, 0, 0, 0, 0, 0, 0, 0],
+        // tick of thread 1
+        [0, 44, 4, 1, 0, 0, 0, 0, 0, 0],
+        // kind 5
+        [0, 44, 5, 0, 0, 0, 0, 0, 0, 0],
+    ]
+}
