@@ -1,4 +1,3 @@
-pub mod Measures
 pub mod Reading
 pub mod Returned
 pub mod Spelling

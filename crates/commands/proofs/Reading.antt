@@ -15,8 +15,9 @@ use Rattle.language.specs.Commands.{missing, tooMuch, isNegative, digitsOf, wro
 use Rattle.scanning.specs.Scanned.{between, Found}
 use Rattle.scanning.proofs.Runs.{found-none, found-word}
 use Rattle.commands.specs.declared.Cursor.{Cursor}
-use Rattle.commands.specs.declared.letters.Amount.{Amount}
-use Rattle.commands.specs.Standing.{progress, Placed, Stands, Advanced, Measured, oneMore, readOn}
+use Rattle.letters.specs.declared.Amount.{Amount}
+use Rattle.commands.specs.Standing.{progress, Placed, Stands, Advanced, oneMore, readOn}
+use Rattle.letters.specs.Measured.{Measured}
 
 -- ---- a refusal or a value
 module _ {ℓ} {A : Type ℓ} (refused : ℕ → A) (accepted : A) where

@@ -25,8 +25,9 @@ use Rattle.scanning.specs.Scanned.{between, Found}
 use Rattle.scanning.proofs.Runs.{found-none, found-word}
 use Rattle.commands.specs.declared.Cursor.{Cursor}
 use Rattle.commands.specs.declared.Parts.{Parts}
-use Rattle.commands.specs.declared.letters.Amount.{Amount}
-use Rattle.commands.specs.Standing.{progress, spelling, Placed, Stands, Advanced, Spells, Measured, misspelling, spellingOut, startingAt, readOpen, readClosed}
+use Rattle.letters.specs.declared.Amount.{Amount}
+use Rattle.commands.specs.Standing.{progress, spelling, Placed, Stands, Advanced, Spells, misspelling, spellingOut, startingAt, readOpen, readClosed}
+use Rattle.letters.specs.Measured.{Measured}
 use Rattle.commands.proofs.Reading.{unless-none, unless-some, progress-stopped, progress-reached, between-none}
 
 -- ---- parts

@@ -12,14 +12,13 @@ use Rattle.model.specs.declared.Receive.the-variants.{Open, Closed}
 use Rattle.model.specs.Threads.{noOperation}
 use Rattle.model.specs.Refusals.{unless}
 use Rattle.model.specs.Bondtrace.{ascii}
-use Rattle.language.specs.Words.{words, value}
+use Rattle.language.specs.Words.{words}
 use Rattle.language.specs.Grammar.{grammar, mostNumbers, firstField, setRow, findRow, numberLetters}
-use Rattle.language.specs.Commands.{wrongDigits, wrongNumber, kept, Progress, stopped, reached, readNumbers, readMore, Spelled, misspelled, spelled, closed, Command, skipped, wrong, asked, readRow, readField, noCommand}
+use Rattle.language.specs.Commands.{wrongNumber, kept, Progress, stopped, reached, readNumbers, readMore, Spelled, misspelled, spelled, closed, Command, skipped, wrong, asked, readRow, readField, noCommand}
 use Rattle.scanning.specs.Scanned.{between}
 use Rattle.commands.specs.declared.Parsed.{Parsed}
 use Rattle.commands.specs.declared.Cursor.{Cursor}
 use Rattle.commands.specs.declared.Parts.{Parts}
-use Rattle.commands.specs.declared.letters.Amount.{Amount}
 
 -- ---- what the structs stand for
 -- how far a line is read
@@ -86,11 +85,6 @@ pub record Letters (row start end : ℕ) : Type 0 where
   pub ordered : start ≤ end
   pub few : end ≤ start + mostNumbers
   pub are : between start end grammar ≡ numberLetters row
-
--- digits are such a number or not, and where they are, which
-pub record Measured (letter : ℕ) (digits : List ℕ) (amount : Amount) : Type 0 where
-  pub reason : amount .reason ≡ wrongDigits letter digits
-  pub which : amount .reason ≡ 0 → amount .value ≡ value digits
 
 -- a word read as one number more
 unfoldable pub oneMore : ℕ → List ℕ → List ℕ → List (List ℕ) → Progress

@@ -13,9 +13,9 @@ ghost use Rattle.commands.specs.Standing.{progress, Placed, Stands, Adva
 use crate::Cursor;
 use crate::MISSING;
 use crate::TOO_MUCH;
-use crate::letters::amount_of;
-use crate::letters::is_negative;
-use crate::letters::takes_sign;
+use letters::amount_of;
+use letters::is_negative;
+use letters::takes_sign;
 use scanning::next_word;
 
 // One number kept behind those before, with its sign where it may have one: how many there are then.

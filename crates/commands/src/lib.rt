@@ -10,7 +10,6 @@ ghost use Rattle.language.specs.Commands.{readNumbers, readRest, readRow, readF
 ghost use Rattle.commands.specs.Standing.{progress, spelling, Stands, Advanced, Placed, Parses, rowRoom, restRoom, lineRoom, failing, asking, fromFirst};
 
 mod cursors;
-mod letters;
 mod operations;
 mod rows;
 
@@ -35,12 +34,6 @@ pub const NO_FIELD: u8 = 2;
 pub const NO_PART: u8 = 3;
 
 pub const MISSING: u8 = 4;
-
-pub const NOT_NUMBER: u8 = 5;
-
-pub const TOO_LARGE: u8 = 6;
-
-pub const TOO_SMALL: u8 = 7;
 
 pub const TOO_MUCH: u8 = 8;
 

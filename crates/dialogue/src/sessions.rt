@@ -7,7 +7,20 @@ use crate::calls;
 use crate::fields;
 use crate::reports;
 use crate::shows;
+use commands::BEGIN_ROW;
+use commands::CANCEL_ROW;
+use commands::HELP_ROW;
+use commands::OUTCOME_ROW;
 use commands::Parsed;
+use commands::RECORDS_ROW;
+use commands::REPORT_ROW;
+use commands::SAY_ROW;
+use commands::SHOW_ROW;
+use commands::SIZE_ROW;
+use commands::STEP_ROW;
+use commands::STORE_ROW;
+use commands::TABLE_ROW;
+use commands::TICK_ROW;
 use forcing::byte_at;
 use model::Table;
 
@@ -41,7 +54,7 @@ pub fn only_text(session: Session, end: usize) -> Reply {
     }
 }
 
-// The commands that make a call.
+// The calls that change the table.
 fn called(
     session: Session,
     command: Parsed,
@@ -51,61 +64,56 @@ fn called(
 ) -> Reply {
     let row = command.row;
     let x = byte_at(numbers, 0);
-    if row == commands::TABLE_ROW {
-        return calls::table(session, x, store, out);
+    match row {
+        TABLE_ROW => calls::table(session, x, store, out),
+        BEGIN_ROW => calls::begin(session, x, command.op, store, out),
+        STEP_ROW => calls::step(session, numbers, store, out),
+        CANCEL_ROW => calls::cancel(session, x, out),
+        _ => calls::tick(session, numbers, out),
     }
-    if row == commands::BEGIN_ROW {
-        return calls::begin(session, x, command.op, store, out);
-    }
-    if row == commands::STEP_ROW {
-        return calls::step(session, numbers, store, out);
-    }
-    if row == commands::CANCEL_ROW {
-        return calls::cancel(session, x, out);
-    }
-    if row == commands::TICK_ROW {
-        return calls::tick(session, numbers, out);
-    }
-    if row == commands::OUTCOME_ROW {
-        let end = shows::outcome(session, x, store, out);
-        return only_text(session, end);
-    }
-    let end = reports::report(session, out);
-    only_text(session, end)
 }
 
-// The commands that print or lend something, or set it by force.
-fn managed(
+// The commands that only print: where the text ends.
+fn told(
+    session: Session,
+    row: u8,
+    numbers: &[u32],
+    line: &[u8],
+    store: &[u32],
+    out: &mut [u8],
+) -> usize {
+    match row {
+        OUTCOME_ROW => shows::outcome(session, byte_at(numbers, 0), store, out),
+        REPORT_ROW => reports::report(session, out),
+        SHOW_ROW => shows::show(session, store, out),
+        SAY_ROW => shows::said(line, out),
+        _ => replies::put_help(out, 0),
+    }
+}
+
+// Whether a command only prints.
+fn only_prints(row: u8) -> bool {
+    match row {
+        OUTCOME_ROW | REPORT_ROW | SHOW_ROW | SAY_ROW | HELP_ROW => true,
+        _ => false,
+    }
+}
+
+// The commands that lend something, or set it by force.
+fn forced(
     session: Session,
     command: Parsed,
     numbers: &[u32],
-    line: &[u8],
     store: &mut [u32],
     out: &mut [u8],
 ) -> Reply {
     let row = command.row;
-    if row == commands::SHOW_ROW {
-        let end = shows::show(session, store, out);
-        return only_text(session, end);
+    match row {
+        STORE_ROW => fields::store(session, numbers, store, out),
+        RECORDS_ROW => fields::records(session, numbers, out),
+        SIZE_ROW => fields::size(session, numbers, out),
+        _ => fields::set(session, command, numbers, out),
     }
-    if row == commands::SAY_ROW {
-        let end = shows::said(line, out);
-        return only_text(session, end);
-    }
-    if row == commands::HELP_ROW {
-        let end = replies::put_help(out, 0);
-        return only_text(session, end);
-    }
-    if row == commands::STORE_ROW {
-        return fields::store(session, numbers, store, out);
-    }
-    if row == commands::RECORDS_ROW {
-        return fields::records(session, numbers, out);
-    }
-    if row == commands::SIZE_ROW {
-        return fields::size(session, numbers, out);
-    }
-    fields::set(session, command, numbers, out)
 }
 
 // Does what a line asks for, and puts the answer at the front of `out`. The numbers are where those of the line are put, the store is what is lent from.
@@ -129,10 +137,15 @@ pub fn respond(
     if command.row == commands::NOTHING {
         return only_text(session, 0);
     }
+    let row = command.row;
     let count = command.count;
     let read = &numbers[0..count];
-    if command.row <= commands::REPORT_ROW {
+    if only_prints(row) {
+        let end = told(session, row, read, line, store, out);
+        return only_text(session, end);
+    }
+    if row <= TICK_ROW {
         return called(session, command, read, store, out);
     }
-    managed(session, command, read, line, store, out)
+    forced(session, command, read, store, out)
 }

@@ -120,7 +120,7 @@ fn make_tables() {
 // Begins without a send part, in which its fields stand all the same: none of them counts.
 fn begin_without_send() {
     print(
-        b"\nBegins: copying, -, kind, thread, parts, target, partner, count, send time, receive time\n",
+        b"\nBegins without a send part: copying, -, kind, thread, parts, target, partner, count, send time, receive time\n",
     );
     let all = cases::without_send();
     let mut i: usize = 0;

@@ -3,7 +3,7 @@ use native.Mathlib.Omega.{arith}
 use borrow.Author.Needs.{needs}
 use Rattle.language.specs.Commands.{withParts, complete}
 use Rattle.commands.proofs.Returned.{parses-as, parses-asked, rest-stopped, rest-parts, rest-asked, rest-more}
-use Rattle.commands.proofs.Measures.{more-below}
+use Rattle.letters.proofs.Measures.{more-below}
 use Rattle.commands.proofs.read_rest.Statement.{statement}
 use Rattle.commands.proofs.read_rest.Tie as tie
 

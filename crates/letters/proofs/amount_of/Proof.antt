@@ -1,8 +1,8 @@
 use mathlib.Core.Path.{sym, _∙_}
 use borrow.Author.Needs.{needs}
-use Rattle.commands.proofs.Measures.{negative-some, digits-behind, digits-whole}
-use Rattle.commands.proofs.letters.amount_of.Statement.{statement}
-use Rattle.commands.proofs.letters.amount_of.Tie as tie
+use Rattle.letters.proofs.Measures.{negative-some, digits-behind, digits-whole}
+use Rattle.letters.proofs.amount_of.Statement.{statement}
+use Rattle.letters.proofs.amount_of.Tie as tie
 
 -- a word with a sign has a first byte
 sub-measured : tie.Need-sub-measured

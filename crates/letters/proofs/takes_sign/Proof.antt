@@ -1,7 +1,7 @@
 use mathlib.Core.Path.{refl}
 use Rattle.language.specs.Grammar.{takesSign}
-use Rattle.commands.proofs.letters.takes_sign.Statement.{statement}
-use Rattle.commands.proofs.letters.takes_sign.Tie as tie
+use Rattle.letters.proofs.takes_sign.Statement.{statement}
+use Rattle.letters.proofs.takes_sign.Tie as tie
 
 -- only a code
 returns : tie.Need-returns

@@ -1,7 +1,7 @@
 use borrow.Author.Tests.{eq-eqb, ne-eqb}
 use Rattle.language.specs.Grammar.{largest}
-use Rattle.commands.proofs.letters.largest_of.Statement.{statement}
-use Rattle.commands.proofs.letters.largest_of.Tie as tie
+use Rattle.letters.proofs.largest_of.Statement.{statement}
+use Rattle.letters.proofs.largest_of.Tie as tie
 
 -- a flag
 returns : tie.Need-returns

@@ -1,7 +1,7 @@
 use borrow.Author.Tests.{eq-eqb, ne-eqb}
 use Rattle.language.specs.Grammar.{least}
-use Rattle.commands.proofs.letters.least_of.Statement.{statement}
-use Rattle.commands.proofs.letters.least_of.Tie as tie
+use Rattle.letters.proofs.least_of.Statement.{statement}
+use Rattle.letters.proofs.least_of.Tie as tie
 
 -- ticks
 returns : tie.Need-returns

@@ -1,7 +1,7 @@
 use borrow.Author.Tests.{eq-eqb, ne-eqb}
 use Rattle.language.specs.Grammar.{mostMore}
-use Rattle.commands.proofs.letters.most_more.Statement.{statement}
-use Rattle.commands.proofs.letters.most_more.Tie as tie
+use Rattle.letters.proofs.most_more.Statement.{statement}
+use Rattle.letters.proofs.most_more.Tie as tie
 
 -- ticks
 returns : tie.Need-returns

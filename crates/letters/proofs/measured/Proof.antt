@@ -1,9 +1,9 @@
 use native.Mathlib.Omega.{arith}
 use borrow.Author.Needs.{needs}
 use borrow.Author.Tests.{not-true, not-false}
-use Rattle.commands.proofs.Measures.{largest-below, measured-none, measured-large, measured-small, measured-fine}
-use Rattle.commands.proofs.letters.measured.Statement.{statement}
-use Rattle.commands.proofs.letters.measured.Tie as tie
+use Rattle.letters.proofs.Measures.{largest-below, measured-none, measured-large, measured-small, measured-fine}
+use Rattle.letters.proofs.measured.Statement.{statement}
+use Rattle.letters.proofs.measured.Tie as tie
 
 -- what is no number
 returns : tie.Need-returns

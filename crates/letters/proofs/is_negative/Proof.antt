@@ -4,8 +4,8 @@ use lib.ListN.{List·getD-eq-default}
 use borrow.Author.Needs.{needs}
 use borrow.Author.Tests.{not-true, not-false}
 use Rattle.language.specs.Commands.{isNegative}
-use Rattle.commands.proofs.letters.is_negative.Statement.{statement}
-use Rattle.commands.proofs.letters.is_negative.Tie as tie
+use Rattle.letters.proofs.is_negative.Statement.{statement}
+use Rattle.letters.proofs.is_negative.Tie as tie
 
 -- one that may have no sign
 returns : tie.Need-returns

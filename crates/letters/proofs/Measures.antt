@@ -14,7 +14,7 @@ use Rattle.language.specs.Words.{value}
 use Rattle.language.specs.Grammar.{largest, least, takesSign, mostMore}
 use Rattle.language.specs.Commands.{notNumber, tooLarge, tooSmall, isNegative, digitsOf, wrongDigits}
 use Rattle.scanning.specs.Scanned.{between, cap, NumberRead}
-use Rattle.commands.specs.Standing.{Measured}
+use Rattle.letters.specs.Measured.{Measured}
 
 -- ---- bounds
 -- one of two numbers below a bound

@@ -2,11 +2,15 @@
 ghost use mathlib.Core.Path.{_≡_};
 ghost use Rattle.language.specs.Grammar.{largest, least, takesSign, mostMore};
 ghost use Rattle.language.specs.Commands.{isNegative, digitsOf};
-ghost use Rattle.commands.specs.Standing.{Measured};
-use crate::NOT_NUMBER;
-use crate::TOO_LARGE;
-use crate::TOO_SMALL;
+ghost use Rattle.letters.specs.Measured.{Measured};
 use scanning::number;
+
+// Why a word is no number of its letter.
+pub const NOT_NUMBER: u8 = 5;
+
+pub const TOO_LARGE: u8 = 6;
+
+pub const TOO_SMALL: u8 = 7;
 
 // The letters: a flag, a thread, a record, a size of the store, a byte, a place of a queue, a word, ticks, and a code with its sign.
 const FLAG: u8 = b'1';
