@@ -1,4 +1,5 @@
-// The cases: ten numbers each. The first two say what else is given, the others stand where a begin record has them, from its kind on.
+// The cases: ten numbers each. The first two say of a record to be written whether it is the first and how many bytes are lent, of a begin whether thread 0 copies; the others stand where
+// a begin record has them, from its kind on.
 use model::Operation;
 use reading::COUNT;
 use reading::FIRST_WORD;
@@ -48,7 +49,7 @@ pub fn without_send() -> [[u8; 10]; 4] {
     ]
 }
 
-// Records.
+// Records to be written.
 pub fn records() -> [[u8; 10]; 18] {
     [
         // table, first
