@@ -19,7 +19,7 @@ use Rattle.scanning.proofs.Runs.{between-length}
 use Rattle.commands.specs.Standing.{Letters}
 
 -- the table has its rows
-pub grammar-length : length grammar ≡ 546
+pub grammar-length : length grammar ≡ rowLength * rows
 unfolding grammar concat ascii upTo
 grammar-length = refl
 

@@ -66,30 +66,32 @@ pub const SIZE_ROW: u8 = 11;
 
 pub const HELP_ROW: u8 = 12;
 
+pub const SEARCH_ROW: u8 = 14;
+
 // Then the fields that `set` can set.
-pub const FLAGS_ROW: u8 = 14;
+pub const FLAGS_ROW: u8 = FIRST_FIELD as u8;
 
-pub const PHASE_ROW: u8 = 15;
+pub const PHASE_ROW: u8 = FLAGS_ROW + 1;
 
-pub const LEFT_ROW: u8 = 16;
+pub const LEFT_ROW: u8 = FLAGS_ROW + 2;
 
-pub const OWNER_ROW: u8 = 17;
+pub const OWNER_ROW: u8 = FLAGS_ROW + 3;
 
-pub const OUTCOME_FIELD_ROW: u8 = 18;
+pub const OUTCOME_FIELD_ROW: u8 = FLAGS_ROW + 4;
 
-pub const COPIED_ROW: u8 = 19;
+pub const COPIED_ROW: u8 = FLAGS_ROW + 5;
 
-pub const WAKING_ROW: u8 = 20;
+pub const WAKING_ROW: u8 = FLAGS_ROW + 6;
 
-pub const QUEUE_ROW: u8 = 21;
+pub const QUEUE_ROW: u8 = FLAGS_ROW + 7;
 
-pub const QUEUELENGTH_ROW: u8 = 22;
+pub const QUEUELENGTH_ROW: u8 = FLAGS_ROW + 8;
 
-pub const OPERATION_ROW: u8 = 23;
+pub const OPERATION_ROW: u8 = FLAGS_ROW + 9;
 
-pub const TARGET_ROW: u8 = 24;
+pub const TARGET_ROW: u8 = FLAGS_ROW + 10;
 
-pub const PRESENT_ROW: u8 = 25;
+pub const PRESENT_ROW: u8 = FLAGS_ROW + 11;
 
 // The row of a line that is skipped.
 pub const NOTHING: u8 = 255;
@@ -98,7 +100,7 @@ pub const NOTHING: u8 = 255;
 const SET_ROW: usize = 13;
 
 // The first row that is a field, and how many fields there are.
-const FIRST_FIELD: usize = 14;
+const FIRST_FIELD: usize = 15;
 
 const FIELDS: usize = 12;
 
@@ -361,6 +363,7 @@ records     r      .
 size        b      .
 help               .
 set         t      f
+search      b      .
 flags       11111  .
 phase       b      .
 left        n      .

@@ -15,6 +15,7 @@ use commands::Parsed;
 use commands::RECORDS_ROW;
 use commands::REPORT_ROW;
 use commands::SAY_ROW;
+use commands::SEARCH_ROW;
 use commands::SHOW_ROW;
 use commands::SIZE_ROW;
 use commands::STEP_ROW;
@@ -87,6 +88,7 @@ fn told(
         REPORT_ROW => reports::report(session, out),
         SHOW_ROW => shows::show(session, store, out),
         SAY_ROW => shows::said(line, out),
+        SEARCH_ROW => shows::search(session, byte_at(numbers, 0), out),
         _ => replies::put_help(out, 0),
     }
 }
@@ -94,7 +96,7 @@ fn told(
 // Whether a command only prints.
 fn only_prints(row: u8) -> bool {
     match row {
-        OUTCOME_ROW | REPORT_ROW | SHOW_ROW | SAY_ROW | HELP_ROW => true,
+        OUTCOME_ROW | REPORT_ROW | SHOW_ROW | SAY_ROW | SEARCH_ROW | HELP_ROW => true,
         _ => false,
     }
 }

@@ -1,11 +1,17 @@
-// The commands that print a thread: its outcome, or everything in use.
+// The commands that print a thread: its outcome, everything in use, or what its search finds.
 use crate::calls::put_line;
+use crate::calls::put_word;
 use crate::sessions::Session;
 use model::Answer;
 use model::Outcome;
 use model::OutcomeAnswer;
+use queues::Found;
+use searches::SearchAnswer;
 use text::put_byte;
+use text::put_number;
+use text::put_text;
 use text::put_words;
+use threads::NOBODY;
 use threads::WORD_LIMIT;
 
 // An outcome and the words that go with it.
@@ -45,6 +51,32 @@ pub fn show(session: Session, store: &[u32], out: &mut [u8]) -> usize {
         i += 1;
     }
     end
+}
+
+// A sender, or `none`.
+fn put_sender(out: &mut [u8], sender: u8) -> usize {
+    if sender == NOBODY {
+        return put_text(out, 0, b"none");
+    }
+    put_number(out, 0, sender as u64)
+}
+
+// What a search found, and how many places it read.
+fn put_found(out: &mut [u8], found: Found) -> usize {
+    let sender = put_sender(out, found.sender);
+    let space = put_byte(out, sender, b' ');
+    let read = put_number(out, space, found.read as u64);
+    put_byte(out, read, text::NEWLINE)
+}
+
+// What the search of thread x finds.
+pub fn search(session: Session, x: u8, out: &mut [u8]) -> usize {
+    let answer = searches::search(session.table, x);
+    match answer {
+        SearchAnswer::Refused(number) => put_line(out, 0, Answer::Refused(number)),
+        SearchAnswer::NotReceiving => put_word(out, b"not receiving"),
+        SearchAnswer::Searched(found) => put_found(out, found),
+    }
 }
 
 // The words behind `say`.

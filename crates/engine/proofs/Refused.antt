@@ -2,9 +2,9 @@
 use mathlib.Core.Path.{_≡_, refl, sym, _∙_, subst}
 use mathlib.Core.Logic.{_≢_}
 use mathlib.Core.List.{List, [], _∷_}
-use Prim.Native.Nat.{ℕ, suc, _<_}
+use Prim.Native.Nat.{ℕ, suc}
 use mathlib.Core.Bool.{true}
-use borrow.Author.Tests.{leb-false, not-false}
+use borrow.Author.Tests.{not-false}
 use Rattle.model.specs.declared.Answer.the-variants.{Refused, Accepted}
 use Rattle.model.specs.declared.Table.{Table}
 use Rattle.model.specs.declared.Returned.{Returned}
@@ -63,12 +63,7 @@ module _ (x : ℕ) (s : State) where
   unfolding laterRows noThread
   lock-after-number f g e z h = group-passes (noThread (s .table) x ∷ []) (lockOwned (s .table) x ∷ []) f g refl e z h
 
--- a thread whose number is not refused is in the table
-pub number-below : (t : Table) (x f : ℕ) → f ≡ firstRefusal (noThread t x ∷ []) → f ≡ 0 → x < t .n
-unfolding noThread
-number-below t x f e z = leb-false (t .n) x (none-holds (noThread t x ∷ []) refl (sym e ∙ z) .0)
-
--- one whose lock is not refused has a free lock
+-- a thread whose lock is not refused has a free lock
 pub lock-unowned : (t : Table) (x f : ℕ) → f ≡ firstRefusal (lockOwned t x ∷ []) → f ≡ 0 → lockFree (at t x) ≡ true
 unfolding lockOwned
 lock-unowned t x f e z = not-false (lockFree (at t x)) (none-holds (lockOwned t x ∷ []) refl (sym e ∙ z) .0)

@@ -158,7 +158,7 @@ module _ {n : ℕ} {T : ℕ → Thread} (F : Formed n T) where
   unfolding occurs
   queue-room x r xn rn quiet =
       let fits = few-enough n (x ∷ senders (T r)) once out in
-      omega (arith, senders-length x (T r) (F .own r rn .items) (queue-small (F .own r rn)), F .few)
+      omega (arith, senders-length (T r) (F .own r rn .items) (queue-small (F .own r rn)), F .few)
     where
       absent : occurs x (senders (T r)) ≡ 0
       absent = F .queues r rn x ∙ rw (lt-ltb x n xn, sends-nowhere (T x) quiet r) refl

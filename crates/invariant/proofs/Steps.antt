@@ -1,10 +1,11 @@
 -- A step keeps the threads well-formed, whatever it does.
-use mathlib.Core.Path.{_≡_, refl, sym, subst}
+use mathlib.Core.Path.{_≡_, refl, sym, _∙_, subst}
 use mathlib.Core.Logic.{_⊎_, inl, inr, ⊎-elim}
 use Prim.Native.Nat.{ℕ, _<_}
 use native.Mathlib.Omega.{arith}
 use lib.ListN.{length}
 use lib.IntN.{ℤ}
+use Rattle.model.specs.declared.Thread.{Thread}
 use Rattle.model.specs.declared.Table.{Table}
 use Rattle.model.specs.Answers.{Reply, held}
 use Rattle.model.specs.Lists.{update}
@@ -47,16 +48,27 @@ module _ (t : Table) (F : Formed (t .n) (at t)) (x : ℕ) (xn : x < t .n) where
   pub act-changes : length (t .threads) ≡ 32 → (a : Action) → TestedFor t x a → at (act a x t) ≡ afterAction a (at t) x
   act-changes whole a f =
       let few = F .few in
-      let i : other (at t x) ≡ otherOf a (at t x) = other-is t x a f in
-      subst (λ (r : ℕ). at (act a x t) ≡ update (update (at t) r (otherAfter a x (at t x) (at t r))) x (ownAfter a (at t x))) i
+      ⊎-elim
+      (λ told.
+      subst (λ (r : ℕ). at (act a x t) ≡ after r) told
       (act-at a x t (omega arith)
-      (subst (λ (r : ℕ). (r < length (t .threads)) ⊎ (otherAfter a x (at t x) (at t r) ≡ at t r)) (sym i)
-      (⊎-elim (λ l. inl (omega arith)) inr (other-in-table a f))))
+      (subst (λ (r : ℕ). (r < length (t .threads)) ⊎ (otherAfter a x (at t x) (at t r) ≡ at t r)) (sym told)
+      (⊎-elim (λ l. inl (omega arith)) inr (other-in-table a f)))))
+      (λ kept. act-at a x t (omega arith) (inr (kept (at t (other (at t x))))) ∙ alone kept (other (at t x)) ∙ sym (alone kept (otherOf a (at t x))))
+      (other-is t x a f)
+    where
+      -- the threads after the action, with r for the other thread
+      after : ℕ → ℕ → Thread
+      after r = update (update (at t) r (otherAfter a x (at t x) (at t r))) x (ownAfter a (at t x))
+
+      -- where no other thread is changed, they are the same whichever r is
+      alone : ((r : Thread) → otherAfter a x (at t x) r ≡ r) → (r : ℕ) → after r ≡ update (at t) x (ownAfter a (at t x))
+      alone kept r = rw (kept (at t r), update-own (at t) r) refl
 
   -- a step that stays changes nothing
   stay-keeps : (a : Reply) → Formed (t .n) (afterAction (stay a) (at t) x)
   unfolding ownAfter otherAfter
-  stay-keeps a = rw (update-own (at t) (other (at t x)), update-own (at t) x) F
+  stay-keeps a = rw (update-own (at t) nobody, update-own (at t) x) F
 
   module _ (unowned : at t x .owner ≡ nobody) where
     -- check: each reason to abort a send

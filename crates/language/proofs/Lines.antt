@@ -2,7 +2,7 @@
 use mathlib.Core.Bool.{true}
 use mathlib.Core.Path.{_≡_, refl}
 use mathlib.Core.List.{List, [], _∷_, _++_}
-use Prim.Native.Nat.{ℕ}
+use Prim.Native.Nat.{ℕ, _+_}
 use Prim.Native.String.{String}
 use lib.ListN.{replicate}
 use Rattle.model.specs.declared.Receive.the-variants.{Absent, Open, Closed}
@@ -11,6 +11,7 @@ use Rattle.model.specs.declared.Receive.{Receive}
 use Rattle.model.specs.Threads.{noOperation}
 use Rattle.model.specs.Lists.{concat}
 use Rattle.model.specs.Bondtrace.{ascii}
+use Rattle.language.specs.Grammar.{firstField}
 use Rattle.language.specs.Commands.{Command, skipped, wrong, asked, commandOf, noCommand, noField, noPart, missing, notNumber, tooLarge, tooSmall, tooMuch, tooLong}
 use Rattle.language.proofs.Computing.{computing}
 
@@ -35,7 +36,7 @@ receives receive = record { send = noOperation .send; receive = receive }
 pub data Name : Type 0 where
   empty comment blanks return leading steps step-and-more word-of-digits no-command prefix-of-one missing-one largest-byte above-a-byte a-tick ticks no-ticks ticks-again : Name
   nothing-begun an-open-wait a-call nine-words closed-wait neither-part too-much-behind flags not-a-flag code-below-zero sign-elsewhere only-a-sign field-missing no-field thread-missing : Name
-  thread-past-the-array : Name
+  thread-past-the-array a-search searches-of-two : Name
 
 -- the line and the command of each
 unfoldable pub row : Name → LineRow
@@ -75,15 +76,17 @@ row nine-words = record {
 }
 row neither-part = refuses "begin 0 sent 1 15" noPart "sent"
 row too-much-behind = refuses "begin 0 receive any 15 0" tooMuch "0"
-row flags = asks "set 31 flags 1 0 0 0 1" 14 (31 ∷ 1 ∷ 0 ∷ 0 ∷ 0 ∷ 1 ∷ [])
+row flags = asks "set 31 flags 1 0 0 0 1" firstField (31 ∷ 1 ∷ 0 ∷ 0 ∷ 0 ∷ 1 ∷ [])
 row not-a-flag = refuses "set 0 present 2" tooLarge "2"
-row code-below-zero = asks "set 0 outcome -6 255 0" 18 (0 ∷ 1 ∷ 6 ∷ 255 ∷ 0 ∷ [])
+row code-below-zero = asks "set 0 outcome -6 255 0" (firstField + 4) (0 ∷ 1 ∷ 6 ∷ 255 ∷ 0 ∷ [])
 row sign-elsewhere = refuses "set 0 outcome 0 -1 0" notNumber "-1"
 row only-a-sign = refuses "set 0 outcome - 255 0" notNumber "-"
 row field-missing = refuses "set 0" noField ""
 row no-field = refuses "set 0 flag 1" noField "flag"
 row thread-missing = refuses "set" missing ""
 row thread-past-the-array = refuses "set 32 phase 0" tooLarge "32"
+row a-search = asks "search 31" 14 (31 ∷ [])
+row searches-of-two = refuses "search 0 1" tooMuch "1"
 
 -- each line is the command that stands beside it
 pub lines-read : (n : Name) → commandOf (ascii (row n .line)) ≡ row n .command
@@ -121,6 +124,8 @@ lines-read field-missing = refl
 lines-read no-field = refl
 lines-read thread-missing = refl
 lines-read thread-past-the-array = refl
+lines-read a-search = refl
+lines-read searches-of-two = refl
 
 -- ---- lines that are too long to stand in a row
 -- "Words past the eighth are counted, to any number (300 words are refused 9 and do not wrap round), and not kept": the count stays at 255

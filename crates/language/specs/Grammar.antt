@@ -26,6 +26,7 @@ grammar = concat (
     ∷ ascii "size        b      .\n"
     ∷ ascii "help               .\n"
     ∷ ascii "set         t      f\n"
+    ∷ ascii "search      b      .\n"
     ∷ ascii "flags       11111  .\n"
     ∷ ascii "phase       b      .\n"
     ∷ ascii "left        n      .\n"
@@ -53,11 +54,11 @@ mostNumbers = 7
 
 -- the rows before this are commands, the others are fields
 abbrev pub firstField : ℕ
-firstField = 14
+firstField = 15
 
 -- how many rows there are
 abbrev pub rows : ℕ
-rows = 26
+rows = 27
 
 -- `set`, the command whose second word is a field
 abbrev pub setRow : ℕ

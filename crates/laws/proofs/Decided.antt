@@ -31,9 +31,9 @@ pub other-in : (h : Thread) (p : Phase) → phaseOf (h .phase) ≡ p → other h
 unfolding other
 other-in h p e = ap (λ (q : Phase). otherIn q h) e
 
--- the other thread by the action; where it is not changed and the action does not tell it, as the phase has it
+-- the other thread by the action; nobody where the action does not tell it, which then changes none
 abbrev pub otherOf : Action → Thread → ℕ
-otherOf (stay a) h = other h
+otherOf (stay a) h = nobody
 otherOf takeLock h = h .op .send .target
 otherOf (abortSend c) h = h .op .send .target
 otherOf startCopy h = h .op .send .target
@@ -42,9 +42,9 @@ otherOf copyWord h = h .op .send .target
 otherOf finishCall h = h .op .send .target
 otherOf finishSend h = h .op .send .target
 otherOf (freeTarget p) h = h .op .send .target
-otherOf retry h = other h
-otherOf toIdle h = other h
-otherOf (abortReceive c) h = other h
+otherOf retry h = nobody
+otherOf toIdle h = nobody
+otherOf (abortReceive c) h = nobody
 otherOf (takeSender s) h = s
 otherOf clearPoll h = h .waking
 otherOf freeSender h = h .waking
@@ -155,20 +155,21 @@ module _ (t : Table) (x : ℕ) where
   unfolding decide
   own-lock-free = by (lockFree (at t x)) inr (λ i. inl (rw i refl))
 
-  -- the other thread of a step is the one that its action tells
-  pub other-is : (a : Action) → TestedFor a → other (at t x) ≡ otherOf a (at t x)
-  other-is (stay a) f = refl
-  other-is takeLock f = other-in (at t x) lock (f .0)
-  other-is (abortSend c) f = other-in (at t x) check (f .0)
-  other-is startCopy f = other-in (at t x) check (f .0)
-  other-is toRelease f = other-in (at t x) check (f .0)
-  other-is copyWord f = other-in (at t x) copy (f .0)
-  other-is finishCall f = other-in (at t x) copy (f .0)
-  other-is finishSend f = other-in (at t x) copy (f .0)
-  other-is (freeTarget p) f = other-in (at t x) release (f .0)
-  other-is retry f = refl
-  other-is toIdle f = refl
-  other-is (abortReceive c) f = refl
-  other-is (takeSender s) f = rw (other-in (at t x) look (f .0), f .1 .finds) refl
-  other-is clearPoll f = other-in (at t x) wake f
-  other-is freeSender f = other-in (at t x) unlock f
+  -- the other thread of a step is the one that its action tells, or the action changes no other thread
+  pub other-is : (a : Action) → TestedFor a → (other (at t x) ≡ otherOf a (at t x)) ⊎ ((r : Thread) → otherAfter a x (at t x) r ≡ r)
+  unfolding otherAfter
+  other-is (stay a) f = inr (λ r. refl)
+  other-is takeLock f = inl (other-in (at t x) lock (f .0))
+  other-is (abortSend c) f = inl (other-in (at t x) check (f .0))
+  other-is startCopy f = inl (other-in (at t x) check (f .0))
+  other-is toRelease f = inl (other-in (at t x) check (f .0))
+  other-is copyWord f = inl (other-in (at t x) copy (f .0))
+  other-is finishCall f = inl (other-in (at t x) copy (f .0))
+  other-is finishSend f = inl (other-in (at t x) copy (f .0))
+  other-is (freeTarget p) f = inl (other-in (at t x) release (f .0))
+  other-is retry f = inr (λ r. refl)
+  other-is toIdle f = inr (λ r. refl)
+  other-is (abortReceive c) f = inr (λ r. refl)
+  other-is (takeSender s) f = inl (rw (other-in (at t x) look (f .0), f .1 .finds) refl)
+  other-is clearPoll f = inl (other-in (at t x) wake f)
+  other-is freeSender f = inl (other-in (at t x) unlock f)

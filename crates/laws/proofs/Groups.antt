@@ -11,7 +11,7 @@ use Rattle.model.specs.declared.Operation.{Operation}
 use Rattle.model.specs.declared.Table.{Table}
 use Rattle.model.specs.WellFormed.{wellFormed}
 use Rattle.model.specs.Calls.{Call, begin, State}
-use Rattle.model.specs.Refusals.{firstRefusal, badSize, notWellFormed, noThread, badLength, tableRows, argumentRows, beginRows, laterRows, rowsOf, refusal, reportRefusal}
+use Rattle.model.specs.Refusals.{firstRefusal, badSize, notWellFormed, noThread, badLength, tableRows, argumentRows, beginRows, laterRows, rowsOf, refusal, searchRefusal, reportRefusal}
 use Rattle.model.proofs.Laws.{_and_}
 use Rattle.model.proofs.Tested.{well-formed-told, formed-few}
 use Rattle.laws.proofs.Rows.{NoneHolds, numbered, none-holds, rows-passed, group-refuses, group-passes}
@@ -77,6 +77,12 @@ module _ (t : Table) (x words : ℕ) where
   unfolding argumentRows noThread badLength
   place-passed below fit = lt-leb (t .n) x below and ap not (eq-eqb words (8 * t .n) fit) and tt
 
+-- ---- the row on a thread's number alone
+-- where it does not hold, the thread is in the table
+pub number-below : (t : Table) (x f : ℕ) → f ≡ firstRefusal (noThread t x ∷ []) → f ≡ 0 → x < t .n
+unfolding noThread
+number-below t x f e z = leb-false (t .n) x (none-holds (noThread t x ∷ []) refl (sym e ∙ z) .0)
+
 -- ---- the rows of a begin
 module _ (x : ℕ) (o : Operation) (s : State) where
   -- the rows on the place come first
@@ -88,6 +94,18 @@ module _ (x : ℕ) (o : Operation) (s : State) where
   pub begin-after-place : (f g : ℕ) → f ≡ firstRefusal (argumentRows (s .table) x (length (s .store))) → f ≡ 0 → g ≡ firstRefusal (beginRows (s .table) x o) → g ≡ firstRefusal (laterRows (begin x o) s)
   unfolding laterRows
   begin-after-place f g e z h = group-passes (argumentRows (s .table) x (length (s .store))) (beginRows (s .table) x o) f g (place-numbered (s .table) x (length (s .store))) e z h
+
+-- ---- the rows of a search
+module _ (t : Table) (x : ℕ) where
+  -- those on the table come first
+  pub search-table : (f : ℕ) → f ≡ firstRefusal (tableRows t) → f ≢ 0 → f ≡ searchRefusal t x
+  unfolding searchRefusal
+  search-table f rows d = group-refuses (tableRows t) (noThread t x ∷ []) f rows d
+
+  -- then the thread's number
+  pub search-number : (f : ℕ) → f ≡ firstRefusal (tableRows t) → f ≡ 0 → (g : ℕ) → g ≡ firstRefusal (noThread t x ∷ []) → g ≡ searchRefusal t x
+  unfolding searchRefusal
+  search-number f rows z g e = group-passes (tableRows t) (noThread t x ∷ []) f g (table-numbered t) rows z e
 
 -- ---- the rows of a report
 module _ (t : Table) (records : ℕ) where

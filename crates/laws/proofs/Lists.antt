@@ -4,7 +4,7 @@ use mathlib.Core.Logic.{_≢_}
 use mathlib.Core.Bool.{Bool, true, false, cond, _&&_, _||_}
 use mathlib.Core.Option.{none, some}
 use mathlib.Core.List.{List, [], _∷_}
-use Prim.Native.Nat.{ℕ, zero, suc, _+_, _-_, _≤_}
+use Prim.Native.Nat.{ℕ, zero, suc, _+_, _-_, _≤_, _<_}
 use native.Mathlib.Omega.{arith}
 use lib.ListN.{length, getElem?}
 use lib.Dec.{eqb}
@@ -107,3 +107,25 @@ none-found f (a ∷ q) s e h =
     by (eqb a s)
     (λ i. let j : a ≡ s = eqb-true a s i in cc)
     (λ i. let l : 1 ≤ bit false + occurs s q = rw i at h in none-found f q s k (omega arith)))
+
+-- what is read from a list stands inside it
+pub inside : (q : List ℕ) (i s : ℕ) → getElem? q i ≡ some s → i < length q
+inside [] i s e = let z : _≡_ {A = ℕ} 0 1 = cc in absurd (omega arith)
+inside (a ∷ q) zero s e = omega arith
+inside (a ∷ q) (suc i) s e = omega (arith, inside q i s e)
+
+-- past its end there is nothing to read
+pub outside : (q : List ℕ) (i : ℕ) → getElem? q i ≡ none → length q ≤ i
+outside [] i e = omega arith
+outside (a ∷ q) zero e = let z : _≡_ {A = ℕ} 0 1 = cc in absurd (omega arith)
+outside (a ∷ q) (suc i) e = omega (arith, outside q i e)
+
+-- f holds at no number before the first at which it holds
+pub before-found : (f : ℕ → Bool) (q : List ℕ) (i s : ℕ) → i < placeWhere f q → getElem? q i ≡ some s → f s ≡ false
+unfolding placeWhere
+before-found f [] i s l e = absurd (omega arith)
+before-found f (a ∷ q) zero s l e = by (f a) (λ d. let k : 0 < 0 = rw d at l in absurd (omega arith)) (λ d. let i : a ≡ s = cc in cc)
+before-found f (a ∷ q) (suc i) s l e =
+    by (f a)
+    (λ d. let k : suc i < 0 = rw d at l in absurd (omega arith))
+    (λ d. let k : suc i < suc (placeWhere f q) = rw d at l in before-found f q i s (omega arith) e)

@@ -14,16 +14,16 @@ use Rattle.model.specs.Queues.{senders, joined, departed}
 use Rattle.model.specs.WellFormed.{sendsTo}
 use Rattle.laws.proofs.Lists.{length-one-less}
 
-module _ (s : ℕ) (h : Thread) (whole : length (h .queue .items) ≡ 32) where
-  -- as many senders wait as the length says
-  pub senders-length : h .queue .len ≤ 32 → length (senders h) ≡ h .queue .len
-  unfolding senders
-  senders-length few = length-take-le (h .queue .len) (h .queue .items) (omega arith)
+-- as many senders wait as the length says
+pub senders-length : (h : Thread) → length (h .queue .items) ≡ 32 → h .queue .len ≤ 32 → length (senders h) ≡ h .queue .len
+unfolding senders
+senders-length h whole few = length-take-le (h .queue .len) (h .queue .items) (omega arith)
 
+module _ (s : ℕ) (h : Thread) (whole : length (h .queue .items) ≡ 32) where
   module _ (few : h .queue .len ≤ 32) (there : 1 ≤ occurs s (senders h)) where
     -- without one sender, one less waits
     one-less : length (without s (senders h)) ≡ h .queue .len - 1
-    one-less = length-one-less s (senders h) there ∙ ap (λ (k : ℕ). k - 1) (senders-length few)
+    one-less = length-one-less s (senders h) there ∙ ap (λ (k : ℕ). k - 1) (senders-length h whole few)
 
     -- a sender that leaves is gone, the others wait as before
     pub senders-departed : senders (departed s h) ≡ without s (senders h)

@@ -37,7 +37,7 @@ shared = 0
 
 unfoldable pub threads : ℕ
 unfolding Phases.phaseOf Phases.isOneOf Threads.noOperation Threads.newThread Threads.newTable Threads.at Threads.put Threads.edit Threads.editBelow
-    Queues.senders Queues.joined Queues.departed Locks.lockFree Queues.searchPlace Queues.findSender Queues.ready Locks.lockHeld Store.wordCopied
+    Queues.senders Queues.joined Queues.departed Locks.lockFree Queues.searchPlace Queues.findSender Queues.placesRead Queues.ready Locks.lockHeld Store.wordCopied
     Store.wordsAt Store.zeroed
 threads = 0
 
@@ -63,12 +63,12 @@ unfoldable pub refusals : ℕ
 unfolding Refusals.firstRefusal Refusals.unless Refusals.badSize Refusals.notWellFormed Refusals.noThread Refusals.badLength Refusals.lockOwned
     Refusals.notIdle Refusals.neitherPart Refusals.withItself Refusals.noPartner Refusals.tooManyWords Refusals.badTime Refusals.tableRows
     Refusals.argumentRows Refusals.beginRows Refusals.laterRows Refusals.rowsOf Refusals.refusal Refusals.makeRefusal Refusals.outcomeRefusal
-    Refusals.reportRefusal
+    Refusals.searchRefusal Refusals.reportRefusal
 refusals = 0
 
 unfoldable pub promises : ℕ
 unfolding Promise.answer Promise.next Promise.makeAnswer Promise.madeTable Promise.view Promise.outcomeAnswer Promise.outcomeWords
-    Promise.outcomePlace Promise.reportAnswer Promise.reportAfter
+    Promise.outcomePlace Promise.searchAnswer Promise.reportAnswer Promise.reportAfter
 promises = 0
 
 unfoldable pub events : ℕ

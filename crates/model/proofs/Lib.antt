@@ -12,6 +12,7 @@ pub mod Clauses
 pub mod Examples
 pub mod Printed
 pub mod Answered
+pub mod Searched
 pub mod Replays
 pub mod Making
 pub mod Free

@@ -12,7 +12,7 @@ use Rattle.model.specs.Promise.{state}
 use Rattle.model.specs.Atomic.{firstMachine}
 use Rattle.model.specs.Examples.{sendTo, receiveOnly, openFor, closedFor, steps, worked}
 use Rattle.model.proofs.Replay.{agree}
-use Rattle.model.proofs.Answered.{afterAnswered}
+use Rattle.model.proofs.Searched.{afterSearched}
 
 -- a trace, by what it shows
 pub data TraceName : Type 0 where
@@ -67,7 +67,7 @@ first = state (newTable 3) (replicate 24 7)
 
 -- both machines go together
 pub replays : (name : TraceName) → agree 3 first firstMachine (calls name) ≡ true
-unfolding afterAnswered calls
+unfolding afterSearched calls
 replays ready-at-time-0 = refl
 replays sender-waits-at-time-0 = refl
 replays time-runs-out = refl
@@ -91,5 +91,5 @@ oneOfEight = record { send = record { present = true; target = 1; count = 1; tim
 -- only the message is delivered: the receiver's other words stay zero, and those of thread 2 as they were
 pub only-the-message : worked first (begin 1 (receiveOnly (openFor 15)) ∷ begin 0 oneOfEight ∷ steps 5 0) .last .store ≡
     0 ∷ 0 ∷ 0 ∷ 0 ∷ 0 ∷ 0 ∷ 0 ∷ 0 ∷ 5 ∷ 0 ∷ 0 ∷ 0 ∷ 0 ∷ 0 ∷ 0 ∷ 0 ∷ 7 ∷ 7 ∷ 7 ∷ 7 ∷ 7 ∷ 7 ∷ 7 ∷ 7 ∷ []
-unfolding afterAnswered
+unfolding afterSearched
 only-the-message = refl

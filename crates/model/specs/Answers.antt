@@ -36,3 +36,9 @@ pub data SaidOutcome : Type 0 where
 abbrev pub saidOutcome : OutcomeAnswer → SaidOutcome
 saidOutcome (NotShown number) = refused number
 saidOutcome (Shown outcome) = shown outcome
+
+-- of a search: a refusal by its number, that the thread is not receiving, or the sender that it settles on, or nobody, and how many places it read
+pub data SaidSearch : Type 0 where
+  refused : ℕ → SaidSearch
+  notReceiving : SaidSearch
+  searched : ℕ → ℕ → SaidSearch

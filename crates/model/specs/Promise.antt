@@ -1,18 +1,21 @@
 -- What each public call returns and leaves, refused or not. Contracts cite these definitions, and the linearization is about them.
 use mathlib.Core.Path.{_≡_}
+use mathlib.Core.Bool.{cond}
 use mathlib.Core.List.{List, []}
+use mathlib.Core.Option.{Option·getD}
 use Prim.Native.Nat.{ℕ, _*_}
 use lib.ListN.{length, take}
 use Rattle.model.specs.declared.Outcome.{Outcome}
 use Rattle.model.specs.declared.Table.{Table}
 use Rattle.model.specs.declared.Answer.{Answer}
 use Rattle.model.specs.Lists.{upTo}
-use Rattle.model.specs.Answers.{accepted, Said, refused, replied, said, SaidOutcome, shown}
-use Rattle.model.specs.Codes.{View}
+use Rattle.model.specs.Answers.{accepted, Said, refused, replied, said, SaidOutcome, shown, SaidSearch, notReceiving, searched}
+use Rattle.model.specs.Codes.{View, nobody}
 use Rattle.model.specs.Threads.{newTable, at}
+use Rattle.model.specs.Queues.{findSender, placesRead}
 use Rattle.model.specs.Store.{wordsAt}
 use Rattle.model.specs.Calls.{Call, State, acceptedReply, acceptedState}
-use Rattle.model.specs.Refusals.{unless, refusal, makeRefusal, outcomeRefusal, reportRefusal}
+use Rattle.model.specs.Refusals.{unless, refusal, makeRefusal, outcomeRefusal, searchRefusal, reportRefusal}
 
 -- ---- begin, step, cancel, tick
 -- what the call answers
@@ -62,6 +65,13 @@ outcomeWords s x = unless (outcomeRefusal s x) (λ g. []) (view s x .words)
 -- "The eight words of thread t start at place 8×t": where in the store they start; refused, 0, which document 01 leaves free
 unfoldable pub outcomePlace : State → ℕ → ℕ
 outcomePlace s x = unless (outcomeRefusal s x) (λ g. 0) (8 * x)
+
+-- ---- search
+-- "the sender it settles on", or nobody, and "how many queue places it read", of thread x, which searches while it is receiving
+unfoldable pub searchAnswer : Table → ℕ → SaidSearch
+searchAnswer t x =
+    let h = at t x in
+    unless (searchRefusal t x) SaidSearch.refused (cond (h .flags .receiving) (searched (Option·getD (findSender h) nobody) (placesRead h)) notReceiving)
 
 -- ---- report
 -- what the report call answers

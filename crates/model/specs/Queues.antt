@@ -1,9 +1,10 @@
 -- Document 01, "The table" and "Calls": the queue of waiting senders, the search for an acceptable one, and when a receiver is ready.
-use mathlib.Core.Bool.{Bool, not}
+use mathlib.Core.Bool.{Bool, not, cond}
 use mathlib.Core.List.{List, [], _∷_, _++_}
 use mathlib.Core.Option.{Option}
 use Prim.Native.Nat.{ℕ, _+_, _-_}
-use lib.ListN.{getElem?, set, take, drop}
+use lib.ListN.{length, getElem?, set, take, drop}
+use lib.Dec.{ltb}
 use Rattle.model.specs.declared.Thread.{Thread}
 use Rattle.model.specs.Operations.{accepts}
 use Rattle.model.specs.Threads.{withQueue}
@@ -28,6 +29,10 @@ searchPlace h = placeWhere (accepts (h .op .receive)) (senders h)
 -- "the first acceptable sender in the queue"
 unfoldable pub findSender : Thread → Option ℕ
 findSender h = getElem? (senders h) (searchPlace h)
+
+-- "how many queue places it read: up to and with that sender's, or all if none fits"
+unfoldable pub placesRead : Thread → ℕ
+placesRead h = cond (ltb (searchPlace h) (length (senders h))) (searchPlace h + 1) (length (senders h))
 
 -- document 01's "ready" for s: "`ipc` and `receiving` set, `send` and `mark` clear, open or closed on" s
 unfoldable pub ready : Thread → ℕ → Bool

@@ -111,6 +111,10 @@ makeRefusal n = firstRefusal (badSize n ∷ [])
 unfoldable pub outcomeRefusal : State → ℕ → ℕ
 outcomeRefusal s x = firstRefusal (tableRows (s .table) ++ argumentRows (s .table) x (length (s .store)))
 
+-- the search of thread x
+unfoldable pub searchRefusal : Table → ℕ → ℕ
+searchRefusal t x = firstRefusal (tableRows t ++ (noThread t x ∷ []))
+
 -- a report into a slice of so many records
 unfoldable pub reportRefusal : Table → ℕ → ℕ
 reportRefusal t records = firstRefusal (tableRows t ++ (badLength (t .n) records ∷ []))

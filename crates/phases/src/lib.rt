@@ -170,7 +170,7 @@ pub fn other_number(own: Thread) -> u8
         threads::CHECK => send.target,
         threads::COPY => send.target,
         threads::RELEASE => send.target,
-        threads::LOOK => queues::first_acceptable(own),
+        threads::LOOK => queues::first_acceptable(own).sender,
         threads::WAKE => own.waking,
         threads::UNLOCK => own.waking,
         _ => threads::NOBODY,

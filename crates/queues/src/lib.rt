@@ -5,7 +5,7 @@ ghost use Prim.Native.Nat.{_<_, _≤_};
 ghost use lib.ListN.{take};
 ghost use Rattle.model.specs.Lists.{occurs};
 ghost use Rattle.model.specs.Codes.{nobody};
-ghost use Rattle.model.specs.Queues.{senders, joined, departed, searchPlace, findSender};
+ghost use Rattle.model.specs.Queues.{senders, joined, departed, searchPlace, findSender, placesRead};
 ghost use Rattle.queues.specs.Places.{placeOf, gapClosed};
 use model::Queue;
 use model::Thread;
@@ -33,19 +33,33 @@ fn search(h: Thread) -> usize
     place
 }
 
-// The first acceptable sender in the queue, or nobody.
-pub fn first_acceptable(h: Thread) -> u8
+// What a search found: the sender that it settled on, or nobody, and how many queue places it read.
+pub struct Found {
+    pub sender: u8,
+    pub read: u8,
+}
+
+// The first acceptable sender in the queue, or nobody, and how many places were read up to it.
+pub fn first_acceptable(h: Thread) -> Found
     requires { ⌜ h .queue .len ≤ 32 ⌝ }
-    ensures { λ r. ⌜ r ≡ Option·getD (findSender h) nobody ⌝ }
+    ensures sender { λ r. ⌜ r .sender ≡ Option·getD (findSender h) nobody ⌝ }
+    ensures read { λ r. ⌜ r .read ≡ placesRead h ⌝ }
 {
     let place = search(h);
     let queue = h.queue;
     let n = queue.len as usize;
     if n <= place {
-        return threads::NOBODY;
+        return Found {
+            sender: threads::NOBODY,
+            read: queue.len,
+        };
     }
     let items = queue.items;
-    items[place]
+    let places = (place as u8) + 1;
+    Found {
+        sender: items[place],
+        read: places,
+    }
 }
 
 // s at the end of the queue.

@@ -123,6 +123,7 @@ tick [K]                 one tick, or K
 outcome X                X, code, source, count and words
 report                   the same without words, for each thread
 show                     every field in use of every thread
+search X                 which sender the search of X finds, or none, and how many queue places it read
 say WORD ..              the words, as a mark
 store K V                lends a store of K words, each V
 records K                lends K records to the report

@@ -22,7 +22,7 @@ returns-4 : tie.Need-returns-4
 returns-4 c = sym (other-in (c .before .before .before .args .own) release (in-number release _ (c .match .keys4)))
 
 returns-5 : tie.Need-returns-5
-returns-5 c = c .first-acceptable .ensures ∙ sym (other-in (c .before .before .before .before .args .own) look (in-number look _ (c .before .match .keys5)))
+returns-5 c = c .first-acceptable .ensures .0 ∙ sym (other-in (c .before .before .before .before .args .own) look (in-number look _ (c .before .match .keys5)))
 
 returns-6 : tie.Need-returns-6
 returns-6 c = sym (other-in (c .before .before .before .args .own) wake (in-number wake _ (c .match .keys6)))
