@@ -16,7 +16,7 @@ pub fn same_store(a: &[u32; 320], b: &[u32; 320]) -> bool {
 
 // Records that are as they were before the report.
 pub fn kept_records(records: [Outcome; 40]) -> bool {
-    let before = dialogue::blank();
+    let before = telling::blank();
     let mut i: usize = 0;
     while i < 40 {
         let outcome = records[i];

@@ -32,7 +32,7 @@ fn compare(before: Session, stored: &[u32; 320], after: Session, store: &[u32; 3
     let new = after.table;
     unless(same_table(old, new), b"changed: table\n");
     unless(same_store(stored, store), b"changed: store\n");
-    let filled = dialogue::report_to(new, after.records);
+    let filled = telling::report_to(new, after.records);
     let answer = filled.answer;
     let records = filled.records;
     if let Answer::Refused(_) = answer {

@@ -8,21 +8,8 @@ use forcing::number_at;
 use model::Answer;
 use model::Operation;
 use model::Returned;
-use text::put_answer;
-use text::put_byte;
-use text::put_text;
-
-// An answer as a line from a place on.
-pub fn put_line(out: &mut [u8], start: usize, answer: Answer) -> usize {
-    let end = put_answer(out, start, answer);
-    put_byte(out, end, text::NEWLINE)
-}
-
-// A word as a line at the front.
-pub fn put_word(out: &mut [u8], word: &[u8]) -> usize {
-    let end = put_text(out, 0, word);
-    put_byte(out, end, text::NEWLINE)
-}
+use telling::put_line;
+use telling::put_word;
 
 // The session with the table that a call returned, and its answer.
 fn returned_line(session: Session, returned: Returned, out: &mut [u8]) -> Reply {

@@ -1,10 +1,10 @@
 // The commands that lend a store or records, and those that set a field by force, as no call would.
-use crate::calls::put_word;
 use crate::sessions::Reply;
 use crate::sessions::Session;
 use commands::Parsed;
 use forcing::byte_at;
 use forcing::number_at;
+use telling::put_word;
 
 // A session and the word `lent`.
 fn lent(session: Session, out: &mut [u8]) -> Reply {

@@ -1,13 +1,8 @@
 // What the console does with one line: a public call, or a change by force. What it answers is text in a caller's bytes.
 mod calls;
 mod fields;
-mod reports;
 mod sessions;
-mod shows;
 
-pub use reports::Filled;
-pub use reports::blank;
-pub use reports::report_to;
 pub use sessions::Reply;
 pub use sessions::Session;
 pub use sessions::new_session;

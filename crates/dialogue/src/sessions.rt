@@ -5,8 +5,6 @@ ghost use lib.ListN.{length};
 ghost use Rattle.commands.specs.Standing.{lineRoom};
 use crate::calls;
 use crate::fields;
-use crate::reports;
-use crate::shows;
 use commands::BEGIN_ROW;
 use commands::CANCEL_ROW;
 use commands::HELP_ROW;
@@ -24,6 +22,7 @@ use commands::TABLE_ROW;
 use commands::TICK_ROW;
 use forcing::byte_at;
 use model::Table;
+use numbers::lesser;
 
 // What a dialogue keeps: a table, how many words are lent as a store, and how many records to the report.
 pub struct Session {
@@ -74,6 +73,12 @@ fn called(
     }
 }
 
+// The words behind `say`.
+fn said(line: &[u8], out: &mut [u8]) -> usize {
+    let end = scanning::without_return(line);
+    replies::put_said(out, 0, &line[0..end])
+}
+
 // The commands that only print: where the text ends.
 fn told(
     session: Session,
@@ -83,12 +88,16 @@ fn told(
     store: &[u32],
     out: &mut [u8],
 ) -> usize {
+    let table = session.table;
+    let words = lesser(session.words, store.len());
+    let lent = &store[0..words];
+    let x = byte_at(numbers, 0);
     match row {
-        OUTCOME_ROW => shows::outcome(session, byte_at(numbers, 0), store, out),
-        REPORT_ROW => reports::report(session, out),
-        SHOW_ROW => shows::show(session, store, out),
-        SAY_ROW => shows::said(line, out),
-        SEARCH_ROW => shows::search(session, byte_at(numbers, 0), out),
+        OUTCOME_ROW => telling::outcome(table, x, lent, out),
+        REPORT_ROW => telling::report(table, session.records, out),
+        SHOW_ROW => telling::show(table, lent, out),
+        SAY_ROW => said(line, out),
+        SEARCH_ROW => telling::search(table, x, out),
         _ => replies::put_help(out, 0),
     }
 }

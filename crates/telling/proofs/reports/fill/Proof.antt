@@ -1,4 +1,4 @@
--- `dialogue::reports::fill` meets its contract: a walk of its MIR by hand, since the borrow checker does not cover a `&mut` slice of structs.
+-- `telling::reports::fill` meets its contract: a walk of its MIR by hand, since the borrow checker does not cover a `&mut` slice of structs.
 --     cut, whole     the local array's memory as the first len records, which are borrowed, and the others;  and the array again, once they are back
 --     asks, exits    what the report call asks;  and from nothing to the contract's clause, since all that is owned at the end is plain data
 -- A rule names an entry of the context by its place, counted from 0. A local is two entries: what lies in it, and the right to free it.
@@ -66,13 +66,13 @@ use Rattle.model.proofs.Table.Laws as table-laws
 use Rattle.report.proofs.report_into as report-into
 use Rattle.report.proofs.report_into.Symbol as report-into-symbol
 use Rattle.report.proofs.report_into.Met as report-into-met
-use Rattle.dialogue.specs.declared.reports.Filled.{Filled}
-use Rattle.dialogue.proofs.reports.Filled as filled
-use Rattle.dialogue.proofs.reports.Filled.Laws as filled-laws
-use Rattle.dialogue.proofs.reports.fill.Key as key
-use Rattle.dialogue.proofs.reports.fill as fill
-use Rattle.dialogue.proofs.reports.fill.Statement as stated
-use Rattle.dialogue.proofs.reports.fill.Code as code
+use Rattle.telling.specs.declared.reports.Filled.{Filled}
+use Rattle.telling.proofs.reports.Filled as filled
+use Rattle.telling.proofs.reports.Filled.Laws as filled-laws
+use Rattle.telling.proofs.reports.fill.Key as key
+use Rattle.telling.proofs.reports.fill as fill
+use Rattle.telling.proofs.reports.fill.Statement as stated
+use Rattle.telling.proofs.reports.fill.Code as code
 
 -- ---- types and machine values
 -- a record's type

@@ -2,23 +2,24 @@ use Prim.Native.Nat.{_-_, _≤_}
 use lib.ListN.{length}
 use mathlib.Core.Path.{_≡_}
 use borrow.Author.Needs.{needs}
-use Rattle.dialogue.proofs.reports.put_records.Statement.{statement}
-use Rattle.dialogue.proofs.reports.put_records.Tie as tie
+use Rattle.telling.proofs.shows.show.Statement.{statement}
+use Rattle.telling.proofs.shows.show.Tie as tie
 
 -- no length has changed
 abbrev Inv-loop : tie.InvT-loop
-Inv-loop out₀ len records end₀ i₀ out end i = (i ≤ 40) × (length out ≡ length out₀)
+Inv-loop store out₀ table n end₀ i₀ out end i = (i ≤ 32) × (length out ≡ length out₀)
 
--- how many records are left
+-- how many threads are left
 abbrev μ-loop : tie.MeasureT-loop
-μ-loop out₀ len records end₀ i₀ out end i = 40 - i
+μ-loop store out₀ table n end₀ i₀ out end i = 32 - i
 
-pub put-records-spec : {M : Type 1} → statement M
-put-records-spec =
+pub show-spec : {M : Type 1} → statement M
+show-spec =
     tie.close
     (tie.spec
     Inv-loop
     μ-loop
+    (λ c. search needs)
     (λ c. search needs)
     (λ c. search needs)
     (λ c. search needs)

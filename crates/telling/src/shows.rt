@@ -1,10 +1,10 @@
 // The commands that print a thread: its outcome, everything in use, or what its search finds.
-use crate::calls::put_line;
-use crate::calls::put_word;
-use crate::sessions::Session;
+use crate::lines::put_line;
+use crate::lines::put_word;
 use model::Answer;
 use model::Outcome;
 use model::OutcomeAnswer;
+use model::Table;
 use queues::Found;
 use searches::SearchAnswer;
 use text::put_byte;
@@ -22,22 +22,18 @@ fn put_shown(out: &mut [u8], x: u8, shown: Outcome, words: &[u32]) -> usize {
 }
 
 // The outcome of thread x and its words, by the public calls.
-pub fn outcome(session: Session, x: u8, store: &[u32], out: &mut [u8]) -> usize {
-    let table = session.table;
-    let lent = numbers::lesser(session.words, store.len());
-    let answer = outcomes::outcome_answer(table, x, &store[0..lent]);
-    let words = outcomes::outcome_words(table, x, &store[0..lent]);
+pub fn outcome(table: Table, x: u8, store: &[u32], out: &mut [u8]) -> usize {
+    let answer = outcomes::outcome_answer(table, x, store);
+    let words = outcomes::outcome_words(table, x, store);
     match answer {
         OutcomeAnswer::Refused(number) => put_line(out, 0, Answer::Refused(number)),
         OutcomeAnswer::Shown(shown) => put_shown(out, x, shown, words),
     }
 }
 
-// A line for each thread, 32 at most, with those of its words that are lent.
-pub fn show(session: Session, store: &[u32], out: &mut [u8]) -> usize {
-    let table = session.table;
+// A line for each thread, 32 at most, with those of its words that the store has.
+pub fn show(table: Table, store: &[u32], out: &mut [u8]) -> usize {
     let n = table.n as usize;
-    let lent = numbers::lesser(session.words, store.len());
     let mut end: usize = 0;
     let mut i: usize = 0;
     while i < 32 {
@@ -46,7 +42,7 @@ pub fn show(session: Session, store: &[u32], out: &mut [u8]) -> usize {
         }
         let thread = table.threads[i];
         let x = i as u8;
-        let words = words::first_words(&store[0..lent], x, WORD_LIMIT);
+        let words = words::first_words(store, x, WORD_LIMIT);
         end = showing::put_thread(out, end, x, thread, words);
         i += 1;
     }
@@ -70,17 +66,11 @@ fn put_found(out: &mut [u8], found: Found) -> usize {
 }
 
 // What the search of thread x finds.
-pub fn search(session: Session, x: u8, out: &mut [u8]) -> usize {
-    let answer = searches::search(session.table, x);
+pub fn search(table: Table, x: u8, out: &mut [u8]) -> usize {
+    let answer = searches::search(table, x);
     match answer {
         SearchAnswer::Refused(number) => put_line(out, 0, Answer::Refused(number)),
         SearchAnswer::NotReceiving => put_word(out, b"not receiving"),
         SearchAnswer::Searched(found) => put_found(out, found),
     }
-}
-
-// The words behind `say`.
-pub fn said(line: &[u8], out: &mut [u8]) -> usize {
-    let end = scanning::without_return(line);
-    replies::put_said(out, 0, &line[0..end])
 }

@@ -1,7 +1,6 @@
 // The report, into as many records as are lent.
 ghost use Prim.Native.Nat.{_≤_};
-use crate::calls::put_line;
-use crate::sessions::Session;
+use crate::lines::put_line;
 use model::Answer;
 use model::Outcome;
 use model::Table;
@@ -63,14 +62,13 @@ fn put_records(out: &mut [u8], records: [Outcome; 40], len: usize) -> usize {
     end
 }
 
-// The report of all threads, a line each.
-pub fn report(session: Session, out: &mut [u8]) -> usize {
-    let lent = session.records;
-    let filled = report_to(session.table, lent);
+// The report of all threads into so many records, a line each.
+pub fn report(table: Table, len: usize, out: &mut [u8]) -> usize {
+    let filled = report_to(table, len);
     let answer = filled.answer;
     let records = filled.records;
     if let Answer::Refused(_) = answer {
         return put_line(out, 0, answer);
     }
-    put_records(out, records, lent)
+    put_records(out, records, len)
 }

@@ -1,0 +1,14 @@
+// What the console tells of a table: an outcome, the report, every field, what a search finds; by the public calls, as text in a caller's bytes.
+mod lines;
+mod reports;
+mod shows;
+
+pub use lines::put_line;
+pub use lines::put_word;
+pub use reports::Filled;
+pub use reports::blank;
+pub use reports::report;
+pub use reports::report_to;
+pub use shows::outcome;
+pub use shows::search;
+pub use shows::show;

@@ -1,0 +1,17 @@
+// An answer, or a word, as a line.
+use model::Answer;
+use text::put_answer;
+use text::put_byte;
+use text::put_text;
+
+// An answer as a line from a place on.
+pub fn put_line(out: &mut [u8], start: usize, answer: Answer) -> usize {
+    let end = put_answer(out, start, answer);
+    put_byte(out, end, text::NEWLINE)
+}
+
+// A word as a line at the front.
+pub fn put_word(out: &mut [u8], word: &[u8]) -> usize {
+    let end = put_text(out, 0, word);
+    put_byte(out, end, text::NEWLINE)
+}
