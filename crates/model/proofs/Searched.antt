@@ -37,7 +37,7 @@ finds receive queued sender read = record { receive = receive; queued = queued; 
 
 -- the rows
 pub data Name : Type 0 where
-  first-fits second-fits last-fits none-fits any-fits only-one-queued behind-the-last nobody-queued receives-nothing : Name
+  first-fits second-fits last-fits any-fits only-one-queued none-fits behind-the-last nobody-queued receives-nothing : Name
 
 -- the receive part, the queue and what is found
 unfoldable pub row : Name → SearchedRow
