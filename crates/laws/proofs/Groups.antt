@@ -2,7 +2,7 @@
 use mathlib.Core.Path.{_≡_, refl, sym, _∙_, ap}
 use mathlib.Core.Logic.{_≢_}
 use mathlib.Core.Bool.{true, not}
-use mathlib.Core.List.{[], _∷_}
+use mathlib.Core.List.{List, [], _∷_, _++_}
 use Prim.Native.Nat.{ℕ, _*_, _≤_, _<_}
 use lib.ListN.{length}
 use lib.Dec.{eqb}
@@ -11,7 +11,7 @@ use Rattle.model.specs.declared.Operation.{Operation}
 use Rattle.model.specs.declared.Table.{Table}
 use Rattle.model.specs.WellFormed.{wellFormed}
 use Rattle.model.specs.Calls.{Call, begin, State}
-use Rattle.model.specs.Refusals.{firstRefusal, badSize, notWellFormed, noThread, badLength, tableRows, argumentRows, beginRows, laterRows, rowsOf, refusal, searchRefusal, reportRefusal}
+use Rattle.model.specs.Refusals.{Row, firstRefusal, badSize, notWellFormed, noThread, badLength, tableRows, argumentRows, beginRows, laterRows, rowsOf, refusal}
 use Rattle.model.proofs.Laws.{_and_}
 use Rattle.model.proofs.Tested.{well-formed-told, formed-few}
 use Rattle.laws.proofs.Rows.{NoneHolds, numbered, none-holds, rows-passed, group-refuses, group-passes}
@@ -37,17 +37,27 @@ module _ (t : Table) where
   unfolding tableRows badSize notWellFormed
   formed-rows formed = ap not (well-formed-told t formed .size) and ap not formed and tt
 
+-- ---- the rows on the table and, behind them, others
+module _ (t : Table) (later : List Row) (f : ℕ) (rows : f ≡ firstRefusal (tableRows t)) where
+  -- the first row on the table that holds refuses
+  pub table-first : f ≢ 0 → f ≡ firstRefusal (tableRows t ++ later)
+  table-first d = group-refuses (tableRows t) later f rows d
+
+  -- where none holds, the first of the others does
+  pub then-later : f ≡ 0 → (g : ℕ) → g ≡ firstRefusal later → g ≡ firstRefusal (tableRows t ++ later)
+  then-later z g e = group-passes (tableRows t) later f g (table-numbered t) rows z e
+
 -- ---- every call
 module _ (c : Call) (s : State) where
   -- a call is refused by the first row on the table that holds
   pub table-number : (f : ℕ) → f ≡ firstRefusal (tableRows (s .table)) → f ≢ 0 → f ≡ refusal c s
   unfolding refusal rowsOf
-  table-number f rows d = group-refuses (tableRows (s .table)) (laterRows c s) f rows d
+  table-number = table-first (s .table) (laterRows c s)
 
   -- where none holds, by the first of the others
   pub later-number : (f : ℕ) → f ≡ firstRefusal (tableRows (s .table)) → f ≡ 0 → (g : ℕ) → g ≡ firstRefusal (laterRows c s) → g ≡ refusal c s
   unfolding refusal rowsOf
-  later-number f rows z g e = group-passes (tableRows (s .table)) (laterRows c s) f g (table-numbered (s .table)) rows z e
+  later-number = then-later (s .table) (laterRows c s)
 
   -- so on a well-formed table the others alone decide
   pub later-refusal : wellFormed (s .table) ≡ true → refusal c s ≡ firstRefusal (laterRows c s)
@@ -94,27 +104,3 @@ module _ (x : ℕ) (o : Operation) (s : State) where
   pub begin-after-place : (f g : ℕ) → f ≡ firstRefusal (argumentRows (s .table) x (length (s .store))) → f ≡ 0 → g ≡ firstRefusal (beginRows (s .table) x o) → g ≡ firstRefusal (laterRows (begin x o) s)
   unfolding laterRows
   begin-after-place f g e z h = group-passes (argumentRows (s .table) x (length (s .store))) (beginRows (s .table) x o) f g (place-numbered (s .table) x (length (s .store))) e z h
-
--- ---- the rows of a search
-module _ (t : Table) (x : ℕ) where
-  -- those on the table come first
-  pub search-table : (f : ℕ) → f ≡ firstRefusal (tableRows t) → f ≢ 0 → f ≡ searchRefusal t x
-  unfolding searchRefusal
-  search-table f rows d = group-refuses (tableRows t) (noThread t x ∷ []) f rows d
-
-  -- then the thread's number
-  pub search-number : (f : ℕ) → f ≡ firstRefusal (tableRows t) → f ≡ 0 → (g : ℕ) → g ≡ firstRefusal (noThread t x ∷ []) → g ≡ searchRefusal t x
-  unfolding searchRefusal
-  search-number f rows z g e = group-passes (tableRows t) (noThread t x ∷ []) f g (table-numbered t) rows z e
-
--- ---- the rows of a report
-module _ (t : Table) (records : ℕ) where
-  -- those on the table come first
-  pub report-table : (f : ℕ) → f ≡ firstRefusal (tableRows t) → f ≢ 0 → f ≡ reportRefusal t records
-  unfolding reportRefusal
-  report-table f rows d = group-refuses (tableRows t) (badLength (t .n) records ∷ []) f rows d
-
-  -- then the number of records
-  pub report-length : (f : ℕ) → f ≡ firstRefusal (tableRows t) → f ≡ 0 → (g : ℕ) → g ≡ firstRefusal (badLength (t .n) records ∷ []) → g ≡ reportRefusal t records
-  unfolding reportRefusal
-  report-length f rows z g e = group-passes (tableRows t) (badLength (t .n) records ∷ []) f g (table-numbered t) rows z e

@@ -11,29 +11,21 @@ use Rattle.model.specs.Queues.{findSender, placesRead}
 use Rattle.model.specs.Examples.{receiveOnly, openFor, closedFor}
 use Rattle.model.proofs.Answered.{afterAnswered}
 
--- what a search finds
-pub record Found : Type 0 where
-  pub sender : Option ℕ
-  pub read : ℕ
-
--- a receive part, how many senders are queued, 1 the first and each next one behind it, and what the search finds
+-- a receive part, how many senders are queued, 1 the first and each next one behind it, the sender that the search settles on, and how many places it read
 pub record SearchedRow : Type 0 where
   pub receive : Receive
   pub queued : ℕ
-  pub found : Found
+  pub sender : Option ℕ
+  pub read : ℕ
 
 -- a thread with this receive part and so many senders in its queue
 unfoldable pub waiting : Receive → ℕ → Thread
 waiting receive queued = withQueue (record { items = upTo 32 suc; len = queued }) (withOp (receiveOnly receive) newThread)
 
--- what it finds
-unfoldable pub searching : Thread → Found
-searching h = record { sender = findSender h; read = placesRead h }
-
 -- ---- the table
 -- a row as it is written below
 abbrev finds : Receive → ℕ → Option ℕ → ℕ → SearchedRow
-finds receive queued sender read = record { receive = receive; queued = queued; found = record { sender = sender; read = read } }
+finds receive queued sender read = record { receive = receive; queued = queued; sender = sender; read = read }
 
 -- the rows
 pub data Name : Type 0 where
@@ -55,17 +47,17 @@ row nobody-queued = finds (openFor 15) 0 none 0
 row receives-nothing = finds Absent 31 none 31
 
 -- each search finds what its row says
-pub searched : (name : Name) → searching (waiting (row name .receive) (row name .queued)) ≡ row name .found
-unfolding afterAnswered searching waiting row
-searched first-fits = refl
-searched second-fits = refl
-searched last-fits = refl
-searched any-fits = refl
-searched only-one-queued = refl
-searched none-fits = refl
-searched behind-the-last = refl
-searched nobody-queued = refl
-searched receives-nothing = refl
+pub searched : (name : Name) → let h = waiting (row name .receive) (row name .queued) in (findSender h ≡ row name .sender) × (placesRead h ≡ row name .read)
+unfolding afterAnswered waiting row
+searched first-fits = (refl, refl)
+searched second-fits = (refl, refl)
+searched last-fits = (refl, refl)
+searched any-fits = (refl, refl)
+searched only-one-queued = (refl, refl)
+searched none-fits = (refl, refl)
+searched behind-the-last = (refl, refl)
+searched nobody-queued = (refl, refl)
+searched receives-nothing = (refl, refl)
 
 -- opens what the rows of the next file are worked out from, once those of this file hold
 unfoldable pub afterSearched : ℕ

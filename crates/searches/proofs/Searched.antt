@@ -46,16 +46,16 @@ queue-fits t x formed below =
     leb-true (at t x .queue .len) 32 queue
 
 -- ---- the answer is settled by what it stands for
-abbrev telling : SaidSearch → SearchAnswer
-telling (SaidSearch.refused number) = Refused number
-telling notReceiving = NotReceiving
-telling (searched sender read) = Searched (record { sender = sender; read = read })
+abbrev answering : SaidSearch → SearchAnswer
+answering (SaidSearch.refused number) = Refused number
+answering notReceiving = NotReceiving
+answering (searched sender read) = Searched (record { sender = sender; read = read })
 
-telling-said : (a : SearchAnswer) → telling (saidSearch a) ≡ a
-telling-said (Refused number) = refl
-telling-said NotReceiving = refl
-telling-said (Searched found) = refl
+answering-said : (a : SearchAnswer) → answering (saidSearch a) ≡ a
+answering-said (Refused number) = refl
+answering-said NotReceiving = refl
+answering-said (Searched found) = refl
 
 -- two answers that stand for the same are the same
 pub search-settles : (a b : SearchAnswer) → saidSearch a ≡ saidSearch b → a ≡ b
-search-settles a b e = sym (telling-said a) ∙ ap telling e ∙ telling-said b
+search-settles a b e = sym (answering-said a) ∙ ap answering e ∙ answering-said b

@@ -7,7 +7,7 @@ use borrow.Author.Tests.{not-true, not-false}
 use Rattle.model.specs.declared.Table.{Table}
 use Rattle.model.specs.Refusals.{firstRefusal, noThread, searchRefusal}
 use Rattle.model.specs.Threads.{at}
-use Rattle.laws.proofs.Groups.{table-formed, table-few, number-below, search-table, search-number}
+use Rattle.laws.proofs.Groups.{table-formed, table-few, table-first, then-later, number-below}
 use Rattle.searches.proofs.Searched.{search-refused, search-none, search-found, queue-fits}
 use Rattle.searches.proofs.search.Statement.{statement}
 use Rattle.searches.proofs.search.Tie as tie
@@ -30,7 +30,8 @@ number-row m = m .number-refusal .ensures _ refl
 
 -- it is the number by which the call is refused
 number : (m : NumberTested) → m .number-refusal .result ≡ searchRefusal (table m) (entry m .args .thread)
-number m = search-number (table m) _ _ (m .before .before .table-refusal .ensures) (m .before .if1 .left) _ (number-row m)
+unfolding searchRefusal
+number m = then-later (table m) _ _ (m .before .before .table-refusal .ensures) (m .before .if1 .left) _ (number-row m)
 
 module _ (m : NumberTested) (z : m .number-refusal .result ≡ 0) where
   -- where it is 0, the thread is in the table
@@ -48,7 +49,8 @@ module _ (m : NumberTested) (z : m .number-refusal .result ≡ 0) where
 -- ---- the needs
 -- a row on the table refuses
 returns : tie.Need-returns
-returns c = search-refused _ (c .before .before .args .thread) _ (search-table _ _ _ (c .before .table-refusal .ensures) (c .if1 .taken)) (c .if1 .taken)
+unfolding searchRefusal
+returns c = search-refused _ (c .before .before .args .thread) _ (table-first _ _ _ (c .before .table-refusal .ensures) (c .if1 .taken)) (c .if1 .taken)
 
 -- the row on the number refuses
 returns-2 : tie.Need-returns-2
