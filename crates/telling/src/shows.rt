@@ -1,4 +1,8 @@
 // The commands that print a thread: its outcome, everything in use, or what its search finds.
+ghost use Rattle.model.specs.Answers.{searched};
+ghost use Rattle.model.specs.Promise.{searchAnswer};
+ghost use Rattle.text.specs.Writing.{Written};
+ghost use Rattle.telling.specs.Told.{senderText, searchText};
 use crate::lines::put_line;
 use crate::lines::put_word;
 use model::Answer;
@@ -50,7 +54,9 @@ pub fn show(table: Table, store: &[u32], out: &mut [u8]) -> usize {
 }
 
 // A sender, or `none`.
-fn put_sender(out: &mut [u8], sender: u8) -> usize {
+fn put_sender(out: &mut [u8], sender: u8) -> usize
+    ensures { λ r. ⌜ Written 0 (senderText sender) (now (out .entry)) (now (out .exit)) r ⌝ }
+{
     if sender == NOBODY {
         return put_text(out, 0, b"none");
     }
@@ -58,7 +64,9 @@ fn put_sender(out: &mut [u8], sender: u8) -> usize {
 }
 
 // What a search found, and how many places it read.
-fn put_found(out: &mut [u8], found: Found) -> usize {
+fn put_found(out: &mut [u8], found: Found) -> usize
+    ensures { λ r. ⌜ Written 0 (searchText (searched (found .sender) (found .read))) (now (out .entry)) (now (out .exit)) r ⌝ }
+{
     let sender = put_sender(out, found.sender);
     let space = put_byte(out, sender, b' ');
     let read = put_number(out, space, found.read as u64);
@@ -66,7 +74,9 @@ fn put_found(out: &mut [u8], found: Found) -> usize {
 }
 
 // What the search of thread x finds.
-pub fn search(table: Table, x: u8, out: &mut [u8]) -> usize {
+pub fn search(table: Table, x: u8, out: &mut [u8]) -> usize
+    ensures { λ r. ⌜ Written 0 (searchText (searchAnswer table x)) (now (out .entry)) (now (out .exit)) r ⌝ }
+{
     let answer = searches::search(table, x);
     match answer {
         SearchAnswer::Refused(number) => put_line(out, 0, Answer::Refused(number)),
