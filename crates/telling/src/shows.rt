@@ -2,7 +2,7 @@
 ghost use Rattle.model.specs.Answers.{searched};
 ghost use Rattle.model.specs.Promise.{searchAnswer};
 ghost use Rattle.text.specs.Writing.{Written};
-ghost use Rattle.telling.specs.Told.{senderText, searchText};
+ghost use Rattle.telling.specs.Texts.{senderText, searchText};
 use crate::lines::put_line;
 use crate::lines::put_word;
 use model::Answer;

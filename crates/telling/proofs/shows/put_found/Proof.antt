@@ -2,7 +2,7 @@ use borrow.Author.Needs.{needs}
 use Rattle.model.specs.Bondtrace.{ascii}
 use Rattle.model.specs.Lists.{upTo}
 use Rattle.text.proofs.Writing.{_then_}
-use Rattle.telling.specs.Told.{searchText}
+use Rattle.telling.specs.Texts.{searchText}
 use Rattle.telling.proofs.shows.put_found.Statement.{statement}
 use Rattle.telling.proofs.shows.put_found.Tie as tie
 

@@ -3,7 +3,7 @@ use borrow.Author.Tests.{eq-eqb, ne-eqb}
 use Rattle.model.specs.Bondtrace.{ascii}
 use Rattle.model.specs.Codes.{nobody}
 use Rattle.model.specs.Lists.{upTo}
-use Rattle.telling.specs.Told.{senderText}
+use Rattle.telling.specs.Texts.{senderText}
 use Rattle.telling.proofs.shows.put_sender.Statement.{statement}
 use Rattle.telling.proofs.shows.put_sender.Tie as tie
 

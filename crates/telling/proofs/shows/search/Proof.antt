@@ -8,7 +8,7 @@ use Rattle.model.specs.Lists.{upTo}
 use Rattle.searches.specs.Said.{saidSearch}
 use Rattle.text.specs.Texts.{answerText}
 use Rattle.text.specs.Writing.{Written}
-use Rattle.telling.specs.Told.{searchText}
+use Rattle.telling.specs.Texts.{searchText}
 use Rattle.telling.proofs.shows.search.Statement.{statement}
 use Rattle.telling.proofs.shows.search.Tie as tie
 
