@@ -10,6 +10,8 @@ use borrow.Author.Tests.{eqb-true, eq-eqb, lt-ltb, ltb-true, not-true}
 use Rattle.model.specs.Codes.{sameCode, sendCancelled, sendTimeOver, receiveCancelled, receiveTimeOver}
 use Rattle.model.specs.Atomic.{Run, nothing, sending, receiving, Machine, Event, begins, cancels, ticks, rendezvous, aborts, runs, QueuedAt, acceptsIn, NoneAcceptable, CanAbort, Can, readyFor}
 use Rattle.model.specs.Linearization.{Entry, Allowed}
+use Rattle.model.specs.Lists.{implies}
+use Rattle.model.specs.Operations.{receiveTime}
 use Rattle.model.proofs.Replay.{sendsNowTo, noneAcceptable, abortTest, canTest, allowedTest}
 use Rattle.laws.proofs.Codes.{code-is}
 use Rattle.model.proofs.Laws.{implies-made, _and_, all-of-made, all-below-made, by, and-left, and-right, implies-read, all-of-read, all-below-read}
@@ -47,7 +49,7 @@ module _ (n : ℕ) (p : Machine) where
   abort-tested x c (CanAbort.cancelledSending o r m) = rw (r, m) refl
   abort-tested x c (CanAbort.lateSending o r l k) = rw (r, l, k) refl
   abort-tested x c (CanAbort.cancelledReceiving w r m) = rw (r, m) refl
-  abort-tested x c (CanAbort.lateReceiving w r l k) = rw (r, l, none-tested x k) refl
+  abort-tested x c (CanAbort.lateReceiving w r l k) = rw (r, l) (implies-made (eqb (receiveTime w) 0) _ (λ e. none-tested x (k (eqb-true (receiveTime w) 0 e))))
 
   -- an event that is allowed passes its test
   can-tested : (e : Event) → Can n e p → canTest n e p ≡ true
@@ -73,10 +75,11 @@ module _ (n : ℕ) (p : Machine) where
   abort-read x c (receiving w) i e =
       by (sameCode c receiveCancelled && p x .mark)
       (λ f. subst (CanAbort n p x) (sym (code-is c receiveCancelled (and-left _ _ f))) (CanAbort.cancelledReceiving w i (and-right (sameCode c receiveCancelled) (p x .mark) f)))
-      (λ f. let g : (sameCode c receiveTimeOver && (eqb (p x .left) 0 && noneAcceptable n p x)) ≡ true = rw f at e in
-      let late : (eqb (p x .left) 0 && noneAcceptable n p x) ≡ true = and-right (sameCode c receiveTimeOver) _ g in
+      (λ f. let unless-0 = implies (eqb (receiveTime w) 0) (noneAcceptable n p x) in
+      let g : (sameCode c receiveTimeOver && (eqb (p x .left) 0 && unless-0)) ≡ true = rw f at e in
+      let late : (eqb (p x .left) 0 && unless-0) ≡ true = and-right (sameCode c receiveTimeOver) _ g in
       subst (CanAbort n p x) (sym (code-is c receiveTimeOver (and-left (sameCode c receiveTimeOver) _ g)))
-      (CanAbort.lateReceiving w i (eqb-true (p x .left) 0 (and-left _ (noneAcceptable n p x) late)) (none-read x (and-right (eqb (p x .left) 0) _ late))))
+      (CanAbort.lateReceiving w i (eqb-true (p x .left) 0 (and-left _ unless-0 late)) (λ z. none-read x (implies-read _ _ (and-right (eqb (p x .left) 0) _ late) (eq-eqb _ _ z)))))
 
   -- where the test for an event holds, its conditions do
   can-read : (e : Event) → canTest n e p ≡ true → Can n e p

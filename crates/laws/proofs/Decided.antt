@@ -1,29 +1,42 @@
 -- What a step has tested when it settles on an action, and which other thread the action concerns.
-use mathlib.Core.Path.{_≡_, refl, ap}
+use mathlib.Core.Path.{_≡_, refl, ap, sym, _∙_}
 use mathlib.Core.Logic.{_≢_, _⊎_, inl, inr}
-use mathlib.Core.Bool.{Bool, true, false, not, cond, _||_}
+use mathlib.Core.Bool.{Bool, true, false, not, cond, _||_, true≢false}
 use mathlib.Core.Option.{Option, none, some, Option·getD}
 use Prim.Native.Nat.{ℕ, _≤_, _<_}
-use lib.Dec.{eqb, ltb}
+use lib.Dec.{eqb, leb, ltb}
 use lib.IntN.{ℤ}
 use borrow.Author.Tests.{eqb-true, eqb-false, ltb-true, ltb-false}
 use Rattle.model.specs.declared.Thread.{Thread}
 use Rattle.model.specs.declared.Table.{Table}
 use Rattle.model.specs.Answers.{held}
 use Rattle.model.specs.Codes.{receiveTimeOver, sendTimeOver, receiveCancelled, sendCancelled, nobody}
-use Rattle.model.specs.Operations.{hasReceive}
+use Rattle.model.specs.Operations.{hasReceive, receiveTime}
 use Rattle.model.specs.Lists.{update}
+use Rattle.model.specs.Times.{isHard}
 use Rattle.model.specs.Phases.{Phase, idle, lock, check, copy, release, sleep, look, wake, unlock, unknown, phaseOf}
 use Rattle.model.specs.Threads.{at}
 use Rattle.model.specs.Locks.{lockFree}
 use Rattle.model.specs.Queues.{findSender, ready}
-use Rattle.model.specs.Step.{Action, stay, takeLock, abortSend, startCopy, toRelease, copyWord, finishCall, finishSend, freeTarget, retry, toIdle, abortReceive, takeSender, clearPoll, freeSender, otherIn, other, lookAt, decideIn, decide, ownAfter, otherAfter}
-use Rattle.model.proofs.Laws.{by}
+use Rattle.model.specs.Step.{Action, stay, takeLock, abortSend, startCopy, toRelease, copyWord, finishCall, finishSend, freeTarget, retry, toIdle, abortReceive, takeSender, clearPoll, freeSender, otherIn, other, overdue, lookAt, decideIn, decide, ownAfter, otherAfter}
+use Rattle.model.proofs.Laws.{by, and-left, and-right}
 
 -- a free lock is owned by nobody
 pub lock-free-read : (h : Thread) → lockFree h ≡ true → h .owner ≡ nobody
 unfolding lockFree
 lock-free-read h e = eqb-true (h .owner) nobody e
+
+-- an overdue receive has no time left
+pub overdue-late : (h : Thread) → overdue h ≡ true → h .left ≡ 0
+unfolding overdue
+overdue-late h e = eqb-true (h .left) 0 (and-right (isHard (receiveTime (h .op .receive))) _ e)
+
+-- and its time code is not 0
+pub overdue-hard : (h : Thread) → overdue h ≡ true → receiveTime (h .op .receive) ≢ 0
+unfolding overdue isHard
+overdue-hard h e z =
+    let low : leb 1 (receiveTime (h .op .receive)) ≡ true = and-left _ _ (and-left (isHard (receiveTime (h .op .receive))) _ e) in
+    true≢false (sym low ∙ rw z refl)
 
 -- ---- the other thread
 -- the thread that a step reads or changes besides its own, by the phase that the thread is known to be in
@@ -71,7 +84,7 @@ module _ (t : Table) (x : ℕ) where
   -- why a receive is aborted, by the code
   pub data AbortsReceive : ℤ → Type 0 where
     cancelled : at t x .flags .mark ≡ true → AbortsReceive receiveCancelled
-    late : at t x .flags .mark ≡ false → findSender (at t x) ≡ none → at t x .left ≡ 0 → AbortsReceive receiveTimeOver
+    late : at t x .flags .mark ≡ false → at t x .left ≡ 0 → (receiveTime (at t x .op .receive) ≡ 0 → findSender (at t x) ≡ none) → AbortsReceive receiveTimeOver
 
   -- why a thread goes to a phase when it has freed its target's lock
   pub data GoesOn : Phase → Type 0 where
@@ -114,11 +127,12 @@ module _ (t : Table) (x : ℕ) where
   looked : In look → at t x .flags .ipc ≡ true → at t x .flags .mark ≡ false → (o : Option ℕ) → findSender (at t x) ≡ o → TestedFor (lookAt (at t x) (at t (Option·getD o nobody)) o)
   unfolding lookAt
   looked p runs unmarked (some s) e =
+      chosen (overdue (at t x)) (abortReceive receiveTimeOver) _ (λ i. (p, runs, AbortsReceive.late unmarked (overdue-late (at t x) i) (λ z. absurd (overdue-hard (at t x) i z)))) (λ k.
       chosen (at t s .flags .poll) (cond (lockFree (at t s)) (takeSender s) _) _
       (λ i. chosen (lockFree (at t s)) (takeSender s) _ (λ j. (p, record { running = runs; unmarked = unmarked; finds = e; polls = i; free = lock-free-read (at t s) j })) (λ j. tt))
-      (λ i. tt)
+      (λ i. tt))
   looked p runs unmarked none e =
-      chosen (eqb (at t x .left) 0) (abortReceive receiveTimeOver) _ (λ i. (p, runs, AbortsReceive.late unmarked e (eqb-true (at t x .left) 0 i))) (λ i. tt)
+      chosen (eqb (at t x .left) 0) (abortReceive receiveTimeOver) _ (λ i. (p, runs, AbortsReceive.late unmarked (eqb-true (at t x .left) 0 i) (λ z. e))) (λ i. tt)
 
   -- what each phase has tested
   decided-in : (p : Phase) → In p → TestedFor (decideIn p x (at t x) (at t (otherIn p (at t x))))

@@ -14,7 +14,7 @@ use Rattle.model.specs.Operations.{hasReceive}
 use Rattle.model.specs.Phases.{Phase, idle, lock, check, copy, release, sleep, look, unknown, phases, phaseOf, phaseNumber}
 use Rattle.model.specs.Locks.{lockFree}
 use Rattle.model.specs.Queues.{findSender, ready}
-use Rattle.model.specs.Step.{stay, takeLock, abortSend, startCopy, toRelease, copyWord, finishCall, finishSend, freeTarget, retry, toIdle, abortReceive, takeSender, other, lookAt, decideIn}
+use Rattle.model.specs.Step.{stay, takeLock, abortSend, startCopy, toRelease, copyWord, finishCall, finishSend, freeTarget, retry, toIdle, abortReceive, takeSender, other, overdue, lookAt, decideIn}
 use Rattle.model.proofs.Laws.{same?}
 use Rattle.model.proofs.Numbers.{phase-read}
 use Rattle.laws.proofs.Decided.{other-in}
@@ -154,17 +154,22 @@ module _ (x : ℕ) (h r : Thread) where
       look-waits e = look-by none missing ∙ cond-false _ _ _ (ne-eqb _ _ e)
 
     module _ (s : ℕ) (found : findSender h ≡ some s) where
-      -- look: the sender that is found does not poll
-      pub look-found-awake : r .flags .poll ≡ false → decideIn look x h r ≡ stay asleep
+      -- look: a sender is found, and the receive is overdue
+      pub look-overdue : overdue h ≡ true → decideIn look x h r ≡ abortReceive receiveTimeOver
       unfolding lookAt
-      look-found-awake e = look-by (some s) found ∙ cond-false _ _ _ e
+      look-overdue e = look-by (some s) found ∙ cond-true _ _ _ e
+
+      -- look: the sender that is found does not poll
+      pub look-found-awake : overdue h ≡ false → r .flags .poll ≡ false → decideIn look x h r ≡ stay asleep
+      unfolding lookAt
+      look-found-awake d e = look-by (some s) found ∙ cond-false _ _ _ d ∙ cond-false _ _ _ e
 
       -- look: its lock is taken
-      pub look-found-wants : r .flags .poll ≡ true → r .owner ≢ nobody → decideIn look x h r ≡ stay wants
+      pub look-found-wants : overdue h ≡ false → r .flags .poll ≡ true → r .owner ≢ nobody → decideIn look x h r ≡ stay wants
       unfolding lookAt lockFree
-      look-found-wants e f = look-by (some s) found ∙ rw (e, ne-eqb _ _ f) refl
+      look-found-wants d e f = look-by (some s) found ∙ rw (d, e, ne-eqb _ _ f) refl
 
       -- look: else it is taken now
-      pub look-takes : r .flags .poll ≡ true → r .owner ≡ nobody → decideIn look x h r ≡ takeSender s
+      pub look-takes : overdue h ≡ false → r .flags .poll ≡ true → r .owner ≡ nobody → decideIn look x h r ≡ takeSender s
       unfolding lookAt lockFree
-      look-takes e f = look-by (some s) found ∙ rw (e, eq-eqb _ _ f) refl
+      look-takes d e f = look-by (some s) found ∙ rw (d, e, eq-eqb _ _ f) refl

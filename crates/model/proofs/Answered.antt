@@ -35,19 +35,19 @@ showing calls =
 
 -- ---- short forms that the rows are written in
 -- the calls of a row, what each answers, and the code of each thread after them; no receive completes, so a code is all of an outcome
-abbrev answers : List Call → List Said → List ℤ → AnsweredRow
+abbrev pub answers : List Call → List Said → List ℤ → AnsweredRow
 answers calls said codes = record { calls = calls; shown = record { answers = said; outcomes = map codeOnly codes } }
 
 -- the same where no call is refused, with what each replies
-abbrev shows : List Call → List Reply → List ℤ → AnsweredRow
+abbrev pub shows : List Call → List Reply → List ℤ → AnsweredRow
 shows calls replies codes = answers calls (map replied replies) codes
 
 -- x begins to send no words to a target, without end
-abbrev sending : ℕ → ℕ → Call
+abbrev pub sending : ℕ → ℕ → Call
 sending x target = begin x (sendTo target [] 15 Absent)
 
 -- x begins to receive
-abbrev receiving : ℕ → Receive → Call
+abbrev pub receiving : ℕ → Receive → Call
 receiving x receive = begin x (receiveOnly receive)
 
 -- ---- the table

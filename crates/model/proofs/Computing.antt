@@ -32,7 +32,7 @@ unfolding Lists.implies Lists.allOf Lists.allBelow Lists.occurs Lists.without Li
 lists = 0
 
 unfoldable pub shared : ℕ
-unfolding Codes.isFailure Times.isTimeCode Times.isLeft Times.tickCount Times.fall Operations.targetBeyond Operations.message
+unfolding Codes.isFailure Times.isTimeCode Times.isLeft Times.isHard Times.tickCount Times.fall Operations.targetBeyond Operations.message
 shared = 0
 
 unfoldable pub threads : ℕ
@@ -51,7 +51,7 @@ unfolding WellFormed.sizeInRange WellFormed.inPhase WellFormed.isCode WellFormed
 clauses = 0
 
 unfoldable pub steps : ℕ
-unfolding Step.other Step.lookAt Step.decideIn Step.decide Step.replyOf Step.ownAfter Step.received Step.otherAfter Step.act Step.storeAfter
+unfolding Step.other Step.overdue Step.lookAt Step.decideIn Step.decide Step.replyOf Step.ownAfter Step.received Step.otherAfter Step.act Step.storeAfter
 steps = 0
 
 unfoldable pub calls : ℕ

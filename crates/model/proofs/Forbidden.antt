@@ -62,7 +62,7 @@ row send-late-receiving = receives 0 ∷ aborts 1 sendTimeOver ∷ []
 row receive-cancelled-unmarked = receives 15 ∷ aborts 1 receiveCancelled ∷ []
 row receive-cancelled-sending = sends 15 ∷ cancels 0 ∷ aborts 0 receiveCancelled ∷ []
 row receive-late-with-time = receives 1 ∷ aborts 1 receiveTimeOver ∷ []
-row receive-late-sender-queued = receives 1 ∷ sends 15 ∷ ticks ∷ aborts 1 receiveTimeOver ∷ []
+row receive-late-sender-queued = receives 0 ∷ sends 15 ∷ aborts 1 receiveTimeOver ∷ []
 row receive-late-sending = sends 0 ∷ aborts 0 receiveTimeOver ∷ []
 -- no other code, and nothing that does not run
 row aborted-with-done = sends 0 ∷ cancels 0 ∷ aborts 0 done ∷ []

@@ -13,6 +13,7 @@ pub mod Examples
 pub mod Printed
 pub mod Answered
 pub mod Searched
+pub mod Limits
 pub mod Replays
 pub mod Making
 pub mod Free

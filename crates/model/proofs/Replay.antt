@@ -8,6 +8,7 @@ use lib.Dec.{eqb, ltb}
 use lib.IntN.{ℤ}
 use Rattle.model.specs.Answers.{Reply, accepted, marked, nothingToCancel, moved, idle, held, wants, asleep, Said, refused, replied}
 use Rattle.model.specs.Lists.{implies, allOf, allBelow}
+use Rattle.model.specs.Operations.{receiveTime}
 use Rattle.model.specs.Codes.{receiveTimeOver, sendTimeOver, receiveCancelled, sendCancelled, sameCode, View}
 use Rattle.model.specs.WellFormed.{wellFormed}
 use Rattle.model.specs.Calls.{Call, State}
@@ -31,7 +32,7 @@ noneAcceptable n p r = allBelow n (λ s. implies (sendsNowTo (p s .run) r) (not 
 unfoldable pub abortTest : ℕ → Machine → ℕ → ℤ → Run → Bool
 abortTest n p x c nothing = false
 abortTest n p x c (sending o) = sameCode c sendCancelled && p x .mark || sameCode c sendTimeOver && (eqb (p x .left) 0 && not (readyFor p (o .send .target) x))
-abortTest n p x c (receiving w) = sameCode c receiveCancelled && p x .mark || sameCode c receiveTimeOver && (eqb (p x .left) 0 && noneAcceptable n p x)
+abortTest n p x c (receiving w) = sameCode c receiveCancelled && p x .mark || sameCode c receiveTimeOver && (eqb (p x .left) 0 && implies (eqb (receiveTime w) 0) (noneAcceptable n p x))
 
 -- the conditions of an event hold
 unfoldable pub canTest : ℕ → Event → Machine → Bool

@@ -141,12 +141,12 @@ abbrev pub NoneAcceptable : ℕ → Machine → ℕ → Type 0
 NoneAcceptable n p r = (s : ℕ) → s < n → QueuedAt p s r → acceptsIn (p r .run) s ≡ false
 
 -- "-6 or -4 ends a sending thread, -5 or -3 a receiving one. -6 and -5 need a mark; -4 needs `left` 0 and a target not ready;
--- -3 needs `left` 0 and no acceptable sender queued"
+-- -3 needs `left` 0 and", where the receive code is 0 (document 02, #106), "no acceptable sender queued"
 pub data CanAbort (n : ℕ) (p : Machine) (x : ℕ) : ℤ → Type 0 where
   cancelledSending : (o : Operation) → p x .run ≡ sending o → p x .mark ≡ true → CanAbort n p x sendCancelled
   lateSending : (o : Operation) → p x .run ≡ sending o → p x .left ≡ 0 → readyFor p (o .send .target) x ≡ false → CanAbort n p x sendTimeOver
   cancelledReceiving : (r : Receive) → p x .run ≡ receiving r → p x .mark ≡ true → CanAbort n p x receiveCancelled
-  lateReceiving : (r : Receive) → p x .run ≡ receiving r → p x .left ≡ 0 → NoneAcceptable n p x → CanAbort n p x receiveTimeOver
+  lateReceiving : (r : Receive) → p x .run ≡ receiving r → p x .left ≡ 0 → (receiveTime r ≡ 0 → NoneAcceptable n p x) → CanAbort n p x receiveTimeOver
 
 -- the conditions of an event: a begin finds "nothing running"; a rendezvous is "of a queued sender s and its target r, ready for it"
 abbrev pub Can : ℕ → Event → Machine → Type 0

@@ -1,5 +1,5 @@
 -- Document 01, "Calls", step: by its phase a step settles on an action; an action changes the thread, one other thread and the store.
-use mathlib.Core.Bool.{true, false, not, cond, _||_}
+use mathlib.Core.Bool.{Bool, true, false, not, cond, _&&_, _||_}
 use mathlib.Core.Option.{Option, none, some, Option·getD}
 use mathlib.Core.List.{List}
 use Prim.Native.Nat.{ℕ, _+_}
@@ -9,7 +9,7 @@ use Rattle.model.specs.declared.Thread.{Thread}
 use Rattle.model.specs.declared.Table.{Table}
 use Rattle.model.specs.Answers.{Reply, moved, held, wants, asleep}
 use Rattle.model.specs.Codes.{done, receiveTimeOver, sendTimeOver, receiveCancelled, sendCancelled, nobody, codeOnly}
-use Rattle.model.specs.Times.{tickCount}
+use Rattle.model.specs.Times.{tickCount, isHard}
 use Rattle.model.specs.Operations.{hasReceive, receiveTime}
 use Rattle.model.specs.Phases.{Phase, idle, lock, check, copy, release, sleep, look, wake, unlock, unknown, phaseOf}
 use Rattle.model.specs.Threads.{at, put, entering, withLeft, withOwner, withCopied, withWaking, polled, sent, ended, withoutReceive}
@@ -58,10 +58,14 @@ otherIn unknown h = nobody
 unfoldable pub other : Thread → ℕ
 other h = otherIn (phaseOf (h .phase)) h
 
--- look, with the first acceptable sender r: "if its `poll` is clear answer asleep, if its lock is taken answer wants, else take its lock";
+-- a receive whose time is a limit and is over: "`left` 0 ends the wait with -3 even if an acceptable sender is queued"
+unfoldable pub overdue : Thread → Bool
+overdue h = isHard (receiveTime (h .op .receive)) && eqb (h .left) 0
+
+-- look, with the first acceptable sender r: -3 where the receive is overdue; "if its `poll` is clear answer asleep, if its lock is taken answer wants, else take its lock";
 -- "none and `left` 0, end with -3, idle; answer asleep"
 unfoldable pub lookAt : Thread → Thread → Option ℕ → Action
-lookAt h r (some s) = cond (r .flags .poll) (cond (lockFree r) (takeSender s) (stay wants)) (stay asleep)
+lookAt h r (some s) = cond (overdue h) (abortReceive receiveTimeOver) (cond (r .flags .poll) (cond (lockFree r) (takeSender s) (stay wants)) (stay asleep))
 lookAt h r none = cond (eqb (h .left) 0) (abortReceive receiveTimeOver) (stay asleep)
 
 -- the action of thread x, which is h, by its phase; r is the other thread

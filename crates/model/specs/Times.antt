@@ -1,5 +1,5 @@
 -- Document 01, "The table": time codes, the ticks that they stand for, and how `left` falls.
-use mathlib.Core.Bool.{Bool, cond, _||_}
+use mathlib.Core.Bool.{Bool, cond, _&&_, _||_}
 use mathlib.Core.List.{List, [], _∷_}
 use Prim.Native.Nat.{ℕ, _-_}
 use lib.Dec.{eqb, leb}
@@ -20,6 +20,10 @@ isTimeCode code = leb code 15
 -- the ticks that a time code stands for
 unfoldable pub tickCount : ℕ → ℕ
 tickCount code = getD tickCounts code 0
+
+-- document 02, #106: "receive codes 1 to 14 are hard"
+unfoldable pub isHard : ℕ → Bool
+isHard code = leb 1 code && leb code 14
 
 -- a number of ticks that `left` can hold while an operation runs
 unfoldable pub isLeft : ℕ → Bool

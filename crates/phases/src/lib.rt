@@ -6,13 +6,19 @@ ghost use lib.ListN.{length};
 ghost use Rattle.model.specs.Operations.{wordLimit};
 ghost use Rattle.model.specs.Phases.{idle, lock, check, copy, release, sleep, look, wake, unlock, phaseOf};
 ghost use Rattle.model.specs.Queues.{findSender};
-ghost use Rattle.model.specs.Step.{other, decideIn};
+ghost use Rattle.model.specs.Step.{other, overdue, decideIn};
 ghost use Rattle.actions.specs.Acted.{Acted};
 ghost use Rattle.phases.specs.Fit.{foundAs, LooksOn, Fit, wordAdded, wordsAfter};
 use actions::Change;
 use actions::Ending;
 use model::Answer;
 use model::Thread;
+
+// The first time code of a receive that is a limit.
+const FIRST_HARD: u8 = 1;
+
+// The last one: the next waits for ever.
+const LAST_HARD: u8 = 14;
 
 // Idle: answer idle.
 fn in_idle(x: u8, own: Thread, other: Thread) -> Change
@@ -129,11 +135,24 @@ fn look_alone(x: u8, own: Thread, other: Thread) -> Change
     actions::stay_with(Answer::Asleep, own, other)
 }
 
-// Look, and the first acceptable sender is s.
+// Whether a receive's time is a limit and is over.
+fn is_overdue(own: Thread) -> bool
+    ensures { λ r. ⌜ r ≡ overdue own ⌝ }
+{
+    let op = own.op;
+    let receive = op.receive;
+    let code = threads::receive_time(receive);
+    (FIRST_HARD <= code) & (code <= LAST_HARD) & (own.left == 0)
+}
+
+// Look, and the first acceptable sender is s: it does not count once a limit is over.
 fn look_at_sender(x: u8, s: u8, own: Thread, other: Thread) -> Change
     requires { ⌜ LooksOn own (some s) ⌝ }
     ensures { λ r. ⌜ Acted (decideIn look x own other) x own other r ⌝ }
 {
+    if is_overdue(own) {
+        return actions::end_by(Ending::ReceiveTimeOver, own, other);
+    }
     if !other.flags.poll {
         return actions::stay_with(Answer::Asleep, own, other);
     }

@@ -8,6 +8,7 @@ use native.Mathlib.Omega.{arith}
 use lib.IntN.{ℤ}
 use Rattle.model.specs.declared.Thread.{Thread}
 use Rattle.model.specs.Codes.{receiveTimeOver, sendTimeOver, receiveCancelled, sendCancelled, nobody, codeOnly}
+use Rattle.model.specs.Operations.{receiveTime}
 use Rattle.model.specs.Phases.{check, look, phaseOf, isOneOf}
 use Rattle.model.specs.Queues.{departed, findSender, ready}
 use Rattle.model.specs.Step.{Action, abortSend, abortReceive, ownAfter, otherAfter}
@@ -51,11 +52,11 @@ module _ {n : ℕ} {p : Machine} {T : ℕ → Thread} {store : List ℕ} (S : Si
     pub receive-cancelled : h .flags .mark ≡ true → CanAbort n p x receiveCancelled
     receive-cancelled e = cancelledReceiving (h .op .receive) receives (mark-alike S x xn ∙ e)
 
-    -- and one whose time is over and whose search finds nobody: who is queued at it stands in its queue
-    pub receive-late : findSender h ≡ none → h .left ≡ 0 → CanAbort n p x receiveTimeOver
-    receive-late e l = lateReceiving (h .op .receive) receives (left-alike S x xn ∙ l) (λ s sn q.
+    -- and one whose time is over and, where its code is 0, whose search finds nobody: who is queued at it stands in its queue
+    pub receive-late : h .left ≡ 0 → (receiveTime (h .op .receive) ≡ 0 → findSender h ≡ none) → CanAbort n p x receiveTimeOver
+    receive-late l e = lateReceiving (h .op .receive) receives (left-alike S x xn ∙ l) (λ z s sn q.
         let once = sends-queued (S .formed) x s xn sn (queued-alike S s sn x q) in
-        rw receives (none-acceptable h s e (omega arith)))
+        rw receives (none-acceptable h s (e z) (omega arith)))
 
   -- ---- what they leave
   module _ (c : ℤ) (can : CanAbort n p x c) where

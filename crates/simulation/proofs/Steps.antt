@@ -54,7 +54,7 @@ module _ (t : Table) {p : Machine} {store : List ℕ} (S : Simulates (t .n) p (a
   -- and so is one of a receive
   may-abort-receive : (c : ℤ) → AbortsReceive t x c → phaseOf (h .phase) ≡ look → h .flags .ipc ≡ true → CanAbort (t .n) p x c
   may-abort-receive c (AbortsReceive.cancelled e) q i = receive-cancelled S x xn q i e
-  may-abort-receive c (AbortsReceive.late e f l) q i = receive-late S x xn q i f l
+  may-abort-receive c (AbortsReceive.late e l f) q i = receive-late S x xn q i l f
 
   -- every action that was decided is its event, or none
   action-leads : (a : Action) → TestedFor t x a → Leads (t .n) (eventOf a x h) p (afterAction a (at t) x) (storeAfter a h store)
