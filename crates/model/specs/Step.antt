@@ -58,11 +58,11 @@ otherIn unknown h = nobody
 unfoldable pub other : Thread → ℕ
 other h = otherIn (phaseOf (h .phase)) h
 
--- a receive whose time is a limit and is over: "`left` 0 ends the wait with -3 even if an acceptable sender is queued"
+-- a receive whose time is a limit and is over; document 02, #106: "In look, `left` 0 ends the wait with -3 even if an acceptable sender is queued"
 unfoldable pub overdue : Thread → Bool
 overdue h = isHard (receiveTime (h .op .receive)) && eqb (h .left) 0
 
--- look, with the first acceptable sender r: -3 where the receive is overdue; "if its `poll` is clear answer asleep, if its lock is taken answer wants, else take its lock";
+-- look, with the first acceptable sender r: -3 where overdue; "if its `poll` is clear answer asleep, if its lock is taken answer wants, else take its lock";
 -- "none and `left` 0, end with -3, idle; answer asleep"
 unfoldable pub lookAt : Thread → Thread → Option ℕ → Action
 lookAt h r (some s) = cond (overdue h) (abortReceive receiveTimeOver) (cond (r .flags .poll) (cond (lockFree r) (takeSender s) (stay wants)) (stay asleep))
