@@ -17,7 +17,7 @@ use Rattle.model.specs.Queues.{findSender, ready}
 use Rattle.model.specs.Step.{stay, takeLock, abortSend, startCopy, toRelease, copyWord, finishCall, finishSend, freeTarget, retry, toIdle, abortReceive, takeSender, other, overdue, lookAt, decideIn}
 use Rattle.model.proofs.Laws.{same?}
 use Rattle.model.proofs.Numbers.{phase-read}
-use Rattle.laws.proofs.Decided.{other-in}
+use Rattle.laws.proofs.Decided.{other-in, overdue-late}
 use Rattle.laws.proofs.Lists.{cond-true, cond-false}
 
 -- a thread with the number of a phase is in it
@@ -153,12 +153,17 @@ module _ (x : ℕ) (h r : Thread) where
       unfolding lookAt
       look-waits e = look-by none missing ∙ cond-false _ _ _ (ne-eqb _ _ e)
 
-    module _ (s : ℕ) (found : findSender h ≡ some s) where
-      -- look: a sender is found, and the receive is overdue
-      pub look-overdue : overdue h ≡ true → decideIn look x h r ≡ abortReceive receiveTimeOver
-      unfolding lookAt
-      look-overdue e = look-by (some s) found ∙ cond-true _ _ _ e
+    -- look: a limit is over, by what the search finds
+    overdue-by : overdue h ≡ true → (o : Option ℕ) → findSender h ≡ o → decideIn look x h r ≡ abortReceive receiveTimeOver
+    unfolding lookAt
+    overdue-by e (some s) found = look-by (some s) found ∙ cond-true _ _ _ e
+    overdue-by e none missing = look-late missing (overdue-late h e)
 
+    -- look: a limit is over, whoever is queued
+    pub look-overdue : overdue h ≡ true → decideIn look x h r ≡ abortReceive receiveTimeOver
+    look-overdue e = overdue-by e (findSender h) refl
+
+    module _ (s : ℕ) (found : findSender h ≡ some s) where
       -- look: the sender that is found does not poll
       pub look-found-awake : overdue h ≡ false → r .flags .poll ≡ false → decideIn look x h r ≡ stay asleep
       unfolding lookAt

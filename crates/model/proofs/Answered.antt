@@ -35,7 +35,7 @@ showing calls =
 
 -- ---- short forms that the rows are written in
 -- the calls of a row, what each answers, and the code of each thread after them; no receive completes, so a code is all of an outcome
-abbrev pub answers : List Call → List Said → List ℤ → AnsweredRow
+abbrev answers : List Call → List Said → List ℤ → AnsweredRow
 answers calls said codes = record { calls = calls; shown = record { answers = said; outcomes = map codeOnly codes } }
 
 -- the same where no call is refused, with what each replies

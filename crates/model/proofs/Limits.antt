@@ -27,7 +27,7 @@ hard-codes = refl
 -- ---- the table
 -- the rows, named by what they show
 pub data Name : Type 0 where
-  sender-never-scheduled sender-stays-queued sender-of-a-taken-lock ready-past-its-limit marked-past-its-limit call-past-its-limit : Name
+  sender-never-scheduled sender-stays-queued sender-locked ready-past-its-limit marked-past-its-limit call-past-its-limit : Name
 
 -- the calls and what they show
 unfoldable pub row : Name → AnsweredRow
@@ -40,7 +40,7 @@ row sender-stays-queued = shows
     (sending 0 1 ∷ steps 3 0 ++ receiving 1 (openFor 1) ∷ tick ∷ step 1 ∷ receiving 1 (openFor 0) ∷ step 1 ∷ [])
     (accepted ∷ moved ∷ moved ∷ moved ∷ accepted ∷ accepted ∷ moved ∷ accepted ∷ moved ∷ []) (running ∷ running ∷ neverBegun ∷ neverBegun ∷ [])
 -- the limit comes before "if its lock is taken answer wants"; 0 sleeps at 1, and 3 has its lock
-row sender-of-a-taken-lock = shows
+row sender-locked = shows
     (sending 0 1 ∷ steps 3 0 ++ sending 3 0 ∷ step 3 ∷ receiving 1 (openFor 1) ∷ tick ∷ step 1 ∷ [])
     (accepted ∷ moved ∷ moved ∷ moved ∷ accepted ∷ moved ∷ accepted ∷ accepted ∷ moved ∷ []) (running ∷ receiveTimeOver ∷ neverBegun ∷ running ∷ [])
 -- "a sender that checks first may still meet it": 0, with no time, would end with -4 if 1 were not ready
@@ -65,21 +65,21 @@ pub limited : (name : Name) → showing (row name .calls) ≡ row name .shown
 unfolding afterSearched showing row
 limited sender-never-scheduled = refl
 limited sender-stays-queued = refl
-limited sender-of-a-taken-lock = refl
+limited sender-locked = refl
 limited ready-past-its-limit = refl
 limited marked-past-its-limit = refl
 limited call-past-its-limit = refl
 
 -- ---- a table that no calls lead to
--- 0 sleeps at 1, whose receive has code 15 and yet no time left
-unfoldable pub noTimeForEver : Table
-noTimeForEver =
+-- 0 sleeps at 1, whose receive has code 15, for ever, and yet no time left
+unfoldable pub outOfTime : Table
+outOfTime =
     let t = worked (state (newTable 2) (replicate 16 7)) (sending 0 1 ∷ steps 3 0 ++ receiving 1 (openFor 15) ∷ []) .last .table in
     put 1 (withLeft 0 (at t 1)) t
 
 -- it is well-formed, and code 15 is no limit: 1 takes the lock of 0
-pub code-15-is-no-limit : (wellFormed noTimeForEver ≡ true) × (decide noTimeForEver 1 ≡ takeSender 0)
-unfolding afterSearched noTimeForEver
+pub code-15-is-no-limit : (wellFormed outOfTime ≡ true) × (decide outOfTime 1 ≡ takeSender 0)
+unfolding afterSearched outOfTime
 code-15-is-no-limit = (refl, refl)
 
 -- opens what the rows of the next file are worked out from, once those of this file hold

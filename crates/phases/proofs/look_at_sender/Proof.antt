@@ -18,7 +18,7 @@ returns c =
     let a = c .before .before .before .args in
     let asked = c .before .before .before .pre in
     let over = sym (c .before .before .is-overdue .ensures) ∙ c .before .if1 .taken in
-    settled _ _ _ _ (look-overdue (a .x) (a .own) (a .other) (asked .runs) (asked .unmarked) (a .s) (asked .found) over) (c .end-by .ensures (a .x) _ refl)
+    settled _ _ _ _ (look-overdue (a .x) (a .own) (a .other) (asked .runs) (asked .unmarked) over) (c .end-by .ensures (a .x) _ refl)
 
 stay-with-requires : tie.Need-stay-with-requires
 stay-with-requires c κs = search needs
