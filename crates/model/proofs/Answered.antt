@@ -12,7 +12,7 @@ use Rattle.model.specs.Answers.{Reply, accepted, marked, moved, held, wa
 use Rattle.model.specs.Lists.{upTo}
 use Rattle.model.specs.Codes.{running, neverBegun, receiveTimeOver, receiveCancelled, sendCancelled, codeOnly}
 use Rattle.model.specs.Threads.{newTable, at}
-use Rattle.model.specs.Calls.{Call, begin, cancel}
+use Rattle.model.specs.Calls.{Call, begin, cancel, State}
 use Rattle.model.specs.Promise.{state}
 use Rattle.model.specs.Examples.{sendTo, receiveOnly, openFor, closedFor, steps, worked}
 use Rattle.model.proofs.Printed.{afterPrinted}
@@ -27,10 +27,14 @@ pub record AnsweredRow : Type 0 where
   pub calls : List Call
   pub shown : Shown
 
+-- a new table of four threads, and a store of sevens
+abbrev pub first : State
+first = state (newTable 4) (replicate 32 7)
+
 -- what some calls show, worked out from the step rules
 unfoldable pub showing : List Call → Shown
 showing calls =
-    let all = worked (state (newTable 4) (replicate 32 7)) calls in
+    let all = worked first calls in
     record { answers = all .answers; outcomes = upTo 4 (λ x. at (all .last .table) x .outcome) }
 
 -- ---- short forms that the rows are written in

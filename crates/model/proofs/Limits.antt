@@ -1,22 +1,23 @@
 -- Document 02, #106: a receive time is a limit. Each row has every answer of its calls and each thread's outcome after them.
 use mathlib.Core.Path.{_≡_, refl}
 use mathlib.Core.Bool.{true, false}
-use mathlib.Core.List.{List, [], _∷_, _++_, map}
+use mathlib.Core.List.{[], _∷_, _++_, map}
 use Prim.Native.Nat.{ℕ}
 use lib.ListN.{replicate}
 use Rattle.model.specs.declared.Receive.the-variants.{Absent}
 use Rattle.model.specs.declared.Table.{Table}
-use Rattle.model.specs.Answers.{accepted, marked, moved, held, asleep, replied}
+use Rattle.model.specs.Answers.{accepted, marked, moved, asleep, replied}
 use Rattle.model.specs.Lists.{upTo}
-use Rattle.model.specs.Codes.{running, neverBegun, receiveTimeOver, receiveCancelled, codeOnly}
+use Rattle.model.specs.Codes.{done, running, neverBegun, receiveTimeOver, receiveCancelled, codeOnly}
 use Rattle.model.specs.Times.{isHard}
-use Rattle.model.specs.Threads.{newTable, at, put, withLeft}
+use Rattle.model.specs.Threads.{at, put, withLeft}
 use Rattle.model.specs.WellFormed.{wellFormed}
 use Rattle.model.specs.Step.{takeSender, decide}
 use Rattle.model.specs.Calls.{begin, step, cancel, tick}
-use Rattle.model.specs.Promise.{state}
+use Rattle.model.specs.Atomic.{firstMachine}
 use Rattle.model.specs.Examples.{sendTo, openFor, steps, receivedFrom, worked}
-use Rattle.model.proofs.Answered.{AnsweredRow, showing, shows, sending, receiving}
+use Rattle.model.proofs.Replay.{agree}
+use Rattle.model.proofs.Answered.{AnsweredRow, first, showing, shows, sending, receiving}
 use Rattle.model.proofs.Searched.{afterSearched}
 
 -- "receive codes 1 to 14 are hard", of the codes 0 to 16
@@ -44,9 +45,13 @@ row sender-locked = shows
     (sending 0 1 ∷ steps 3 0 ++ sending 3 0 ∷ step 3 ∷ receiving 1 (openFor 1) ∷ tick ∷ step 1 ∷ [])
     (accepted ∷ moved ∷ moved ∷ moved ∷ accepted ∷ moved ∷ accepted ∷ accepted ∷ moved ∷ []) (running ∷ receiveTimeOver ∷ neverBegun ∷ running ∷ [])
 -- "a sender that checks first may still meet it": 0, with no time, would end with -4 if 1 were not ready
-row ready-past-its-limit = shows
-    (receiving 1 (openFor 1) ∷ tick ∷ begin 0 (sendTo 1 [] 0 Absent) ∷ steps 2 0 ++ step 1 ∷ [])
-    (accepted ∷ accepted ∷ accepted ∷ moved ∷ moved ∷ held ∷ []) (running ∷ running ∷ neverBegun ∷ neverBegun ∷ [])
+row ready-past-its-limit = record {
+  calls = receiving 1 (openFor 1) ∷ tick ∷ begin 0 (sendTo 1 [] 0 Absent) ∷ steps 4 0 ++ step 1 ∷ [];
+  shown = record {
+    answers = map replied (accepted ∷ accepted ∷ accepted ∷ moved ∷ moved ∷ moved ∷ moved ∷ moved ∷ []);
+    outcomes = codeOnly done ∷ receivedFrom 0 0 ∷ codeOnly neverBegun ∷ codeOnly neverBegun ∷ [];
+  };
+}
 -- "The test for a mark still comes first"
 row marked-past-its-limit = shows
     (sending 0 1 ∷ receiving 1 (openFor 1) ∷ tick ∷ cancel 1 ∷ step 1 ∷ [])
@@ -70,11 +75,21 @@ limited ready-past-its-limit = refl
 limited marked-past-its-limit = refl
 limited call-past-its-limit = refl
 
+-- and on them both machines go together
+pub replayed : (name : Name) → agree 4 first firstMachine (row name .calls) ≡ true
+unfolding afterSearched row
+replayed sender-never-scheduled = refl
+replayed sender-stays-queued = refl
+replayed sender-locked = refl
+replayed ready-past-its-limit = refl
+replayed marked-past-its-limit = refl
+replayed call-past-its-limit = refl
+
 -- ---- a table that no calls lead to
 -- 0 sleeps at 1, whose receive has code 15, for ever, and yet no time left
 unfoldable pub outOfTime : Table
 outOfTime =
-    let t = worked (state (newTable 2) (replicate 16 7)) (sending 0 1 ∷ steps 3 0 ++ receiving 1 (openFor 15) ∷ []) .last .table in
+    let t = worked first (sending 0 1 ∷ steps 3 0 ++ receiving 1 (openFor 15) ∷ []) .last .table in
     put 1 (withLeft 0 (at t 1)) t
 
 -- it is well-formed, and code 15 is no limit: 1 takes the lock of 0
@@ -85,4 +100,4 @@ code-15-is-no-limit = (refl, refl)
 -- opens what the rows of the next file are worked out from, once those of this file hold
 unfoldable pub afterLimits : ℕ
 unfolding afterSearched
-afterLimits = let codes = hard-codes in let rows = limited in let old = code-15-is-no-limit in 0
+afterLimits = let codes = hard-codes in let rows = limited in let replays = replayed in let old = code-15-is-no-limit in 0

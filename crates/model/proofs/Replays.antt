@@ -19,7 +19,6 @@ pub data TraceName : Type 0 where
   ready-at-time-0 sender-waits-at-time-0 time-runs-out marked-receiver receiver-still-sending : TraceName
   new-time-for-the-receive no-time-for-the-receive mark-kept-past-the-send receive-dropped-with-the-send received-in-wake received-in-unlock received-in-release : TraceName
   words-of-two-messages cancels-answered begins-refused : TraceName
-  limit-passed delivered-past-its-limit call-past-its-limit : TraceName
 
 -- its calls, on a new table of three threads
 unfoldable pub calls : TraceName → List Call
@@ -61,13 +60,6 @@ calls begins-refused =
     begin 0 (receiveOnly Absent) ∷ begin 0 (sendTo 0 [] 15 Absent) ∷ begin 0 (receiveOnly (closedFor 0 15)) ∷ begin 0 (receiveOnly (closedFor 3 15))
     ∷ begin 0 (sendTo 1 (replicate 9 1) 15 Absent) ∷ begin 0 (sendTo 1 [] 16 Absent) ∷ begin 0 (receiveOnly (openFor 16)) ∷ begin 3 (receiveOnly (openFor 15))
     ∷ begin 0 (receiveOnly (openFor 15)) ∷ begin 0 (receiveOnly (openFor 15)) ∷ []
--- a receive of five ticks is aborted after them, with a sender queued
-calls limit-passed = begin 1 (receiveOnly (openFor 3)) ∷ begin 0 (sendTo 1 (9 ∷ []) 15 Absent) ∷ replicate 5 tick ++ steps 1 1
--- the sender that checks first delivers
-calls delivered-past-its-limit = begin 1 (receiveOnly (openFor 3)) ∷ begin 0 (sendTo 1 (9 ∷ []) 15 Absent) ∷ replicate 5 tick ++ steps 5 0 ++ steps 1 1
--- 1 has sent its call to 2 and has one tick for the answer; 0 is queued at it
-calls call-past-its-limit =
-    begin 2 (receiveOnly (openFor 15)) ∷ begin 1 (sendTo 2 [] 15 (openFor 1)) ∷ begin 0 (sendTo 1 (9 ∷ []) 15 Absent) ∷ steps 4 1 ++ tick ∷ steps 1 1
 
 -- the new table, and a store of sevens
 abbrev pub first : State
@@ -91,9 +83,6 @@ replays received-in-release = refl
 replays words-of-two-messages = refl
 replays cancels-answered = refl
 replays begins-refused = refl
-replays limit-passed = refl
-replays delivered-past-its-limit = refl
-replays call-past-its-limit = refl
 
 -- a message of one word, with other words in its places past the count
 abbrev oneOfEight : Operation
