@@ -4,17 +4,15 @@ use mathlib.Core.Path.{_≡_, refl}
 use mathlib.Core.List.{List, [], _∷_, _++_, map}
 use Prim.Native.Nat.{ℕ}
 use lib.IntN.{ℤ}
-use lib.ListN.{replicate}
 use Rattle.model.specs.declared.Receive.the-variants.{Absent}
 use Rattle.model.specs.declared.Receive.{Receive}
 use Rattle.model.specs.declared.Outcome.{Outcome}
 use Rattle.model.specs.Answers.{Reply, accepted, marked, moved, held, wants, asleep, Said, refused, replied}
 use Rattle.model.specs.Lists.{upTo}
 use Rattle.model.specs.Codes.{running, neverBegun, receiveTimeOver, receiveCancelled, sendCancelled, codeOnly}
-use Rattle.model.specs.Threads.{newTable, at}
-use Rattle.model.specs.Calls.{Call, begin, cancel, State}
-use Rattle.model.specs.Promise.{state}
-use Rattle.model.specs.Examples.{sendTo, receiveOnly, openFor, closedFor, steps, worked}
+use Rattle.model.specs.Threads.{at}
+use Rattle.model.specs.Calls.{Call, begin, cancel}
+use Rattle.model.specs.Examples.{firstState, sendTo, receiveOnly, openFor, closedFor, steps, worked}
 use Rattle.model.proofs.Printed.{afterPrinted}
 
 -- every answer of some calls, and each thread's outcome after them
@@ -27,14 +25,10 @@ pub record AnsweredRow : Type 0 where
   pub calls : List Call
   pub shown : Shown
 
--- a new table of four threads, and a store of sevens
-abbrev pub first : State
-first = state (newTable 4) (replicate 32 7)
-
 -- what some calls show, worked out from the step rules
 unfoldable pub showing : List Call → Shown
 showing calls =
-    let all = worked first calls in
+    let all = worked (firstState 4) calls in
     record { answers = all .answers; outcomes = upTo 4 (λ x. at (all .last .table) x .outcome) }
 
 -- ---- short forms that the rows are written in

@@ -15,9 +15,9 @@ use Rattle.model.specs.WellFormed.{wellFormed}
 use Rattle.model.specs.Step.{takeSender, decide}
 use Rattle.model.specs.Calls.{begin, step, cancel, tick}
 use Rattle.model.specs.Atomic.{firstMachine}
-use Rattle.model.specs.Examples.{sendTo, openFor, steps, receivedFrom, worked}
+use Rattle.model.specs.Examples.{firstState, sendTo, openFor, steps, receivedFrom, worked}
 use Rattle.model.proofs.Replay.{agree}
-use Rattle.model.proofs.Answered.{AnsweredRow, first, showing, shows, sending, receiving}
+use Rattle.model.proofs.Answered.{AnsweredRow, showing, shows, sending, receiving}
 use Rattle.model.proofs.Searched.{afterSearched}
 
 -- "receive codes 1 to 14 are hard", of the codes 0 to 16
@@ -76,7 +76,7 @@ limited marked-past-its-limit = refl
 limited call-past-its-limit = refl
 
 -- and on them both machines go together
-pub replayed : (name : Name) → agree 4 first firstMachine (row name .calls) ≡ true
+pub replayed : (name : Name) → agree 4 (firstState 4) firstMachine (row name .calls) ≡ true
 unfolding afterSearched row
 replayed sender-never-scheduled = refl
 replayed sender-stays-queued = refl
@@ -89,7 +89,7 @@ replayed call-past-its-limit = refl
 -- 0 sleeps at 1, whose receive has code 15, for ever, and yet no time left
 unfoldable pub outOfTime : Table
 outOfTime =
-    let t = worked first (sending 0 1 ∷ steps 3 0 ++ receiving 1 (openFor 15) ∷ []) .last .table in
+    let t = worked (firstState 4) (sending 0 1 ∷ steps 3 0 ++ receiving 1 (openFor 15) ∷ []) .last .table in
     put 1 (withLeft 0 (at t 1)) t
 
 -- it is well-formed, and code 15 is no limit: 1 takes the lock of 0

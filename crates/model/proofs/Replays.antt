@@ -6,11 +6,9 @@ use mathlib.Core.List.{List, [], _∷_, _++_}
 use lib.ListN.{replicate}
 use Rattle.model.specs.declared.Receive.the-variants.{Absent}
 use Rattle.model.specs.declared.Operation.{Operation}
-use Rattle.model.specs.Threads.{newTable}
-use Rattle.model.specs.Calls.{Call, begin, cancel, tick, State}
-use Rattle.model.specs.Promise.{state}
+use Rattle.model.specs.Calls.{Call, begin, cancel, tick}
 use Rattle.model.specs.Atomic.{firstMachine}
-use Rattle.model.specs.Examples.{sendTo, receiveOnly, openFor, closedFor, steps, worked}
+use Rattle.model.specs.Examples.{firstState, sendTo, receiveOnly, openFor, closedFor, steps, worked}
 use Rattle.model.proofs.Replay.{agree}
 use Rattle.model.proofs.Limits.{afterLimits}
 
@@ -61,12 +59,8 @@ calls begins-refused =
     ∷ begin 0 (sendTo 1 (replicate 9 1) 15 Absent) ∷ begin 0 (sendTo 1 [] 16 Absent) ∷ begin 0 (receiveOnly (openFor 16)) ∷ begin 3 (receiveOnly (openFor 15))
     ∷ begin 0 (receiveOnly (openFor 15)) ∷ begin 0 (receiveOnly (openFor 15)) ∷ []
 
--- the new table, and a store of sevens
-abbrev pub first : State
-first = state (newTable 3) (replicate 24 7)
-
 -- both machines go together
-pub replays : (name : TraceName) → agree 3 first firstMachine (calls name) ≡ true
+pub replays : (name : TraceName) → agree 3 (firstState 3) firstMachine (calls name) ≡ true
 unfolding afterLimits calls
 replays ready-at-time-0 = refl
 replays sender-waits-at-time-0 = refl
@@ -89,7 +83,7 @@ abbrev oneOfEight : Operation
 oneOfEight = record { send = record { present = true; target = 1; count = 1; time = 15; words = 5 ∷ 6 ∷ 6 ∷ 6 ∷ 6 ∷ 6 ∷ 6 ∷ 6 ∷ [] }; receive = Absent }
 
 -- only the message is delivered: the receiver's other words stay zero, and those of thread 2 as they were
-pub only-the-message : worked first (begin 1 (receiveOnly (openFor 15)) ∷ begin 0 oneOfEight ∷ steps 5 0) .last .store ≡
+pub only-the-message : worked (firstState 3) (begin 1 (receiveOnly (openFor 15)) ∷ begin 0 oneOfEight ∷ steps 5 0) .last .store ≡
     0 ∷ 0 ∷ 0 ∷ 0 ∷ 0 ∷ 0 ∷ 0 ∷ 0 ∷ 5 ∷ 0 ∷ 0 ∷ 0 ∷ 0 ∷ 0 ∷ 0 ∷ 0 ∷ 7 ∷ 7 ∷ 7 ∷ 7 ∷ 7 ∷ 7 ∷ 7 ∷ 7 ∷ []
 unfolding afterLimits
 only-the-message = refl

@@ -62,11 +62,14 @@ worked s (c ∷ cs) =
 unfoldable pub seen : Thread → Seen
 seen h = record { phase = phaseOf (h .phase); flags = h .flags; owner = h .owner; queue = senders h; outcome = h .outcome }
 
+-- a new table of n threads, and a store of sevens
+abbrev pub firstState : ℕ → State
+firstState n = state (newTable n) (replicate (8 * n) 7)
+
 -- a row worked out from the step rules
 unfoldable pub workedOut : ExampleRow → Result
 workedOut row =
-    let first = state (newTable (row .n)) (replicate (8 * row .n) 7) in
-    let all = worked first (row .calls) in
+    let all = worked (firstState (row .n)) (row .calls) in
     record {
       answers = all .answers;
       threads = upTo (row .n) (λ x. seen (at (all .last .table) x));
