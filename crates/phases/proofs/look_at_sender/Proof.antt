@@ -24,8 +24,8 @@ InTime = tie.Else1
 abbrev timed : InTime → Timed
 timed i = i .before
 
-waits : (i : InTime) → overdue (entry (timed i) .args .own) ≡ false
-waits i = sym (timed i .is-overdue .ensures) ∙ i .if1 .left
+not-overdue : (i : InTime) → overdue (entry (timed i) .args .own) ≡ false
+not-overdue i = sym (timed i .is-overdue .ensures) ∙ i .if1 .left
 
 -- and the sender polls
 abbrev Polls : Type 0
@@ -50,7 +50,7 @@ returns-2 c =
     let i = c .before .before .before in
     let a = entry (timed i) .args in
     let asked = entry (timed i) .pre in
-    settled _ _ _ _ (look-found-awake (a .x) (a .own) (a .other) (asked .runs) (asked .unmarked) (a .s) (asked .found) (waits i) (not-true (a .other .flags .poll) (c .before .if2 .taken))) (c .stay-with .ensures (a .x) asleep refl)
+    settled _ _ _ _ (look-found-awake (a .x) (a .own) (a .other) (asked .runs) (asked .unmarked) (a .s) (asked .found) (not-overdue i) (not-true (a .other .flags .poll) (c .before .if2 .taken))) (c .stay-with .ensures (a .x) asleep refl)
 
 returns-3 : tie.Need-returns-3
 returns-3 c =
@@ -58,7 +58,7 @@ returns-3 c =
     let i = inTime p in
     let a = entry (timed i) .args in
     let asked = entry (timed i) .pre in
-    settled _ _ _ _ (look-found-wants (a .x) (a .own) (a .other) (asked .runs) (asked .unmarked) (a .s) (asked .found) (waits i) (polls p) (c .before .if3 .taken)) (c .stay-with2 .ensures (a .x) wants refl)
+    settled _ _ _ _ (look-found-wants (a .x) (a .own) (a .other) (asked .runs) (asked .unmarked) (a .s) (asked .found) (not-overdue i) (polls p) (c .before .if3 .taken)) (c .stay-with2 .ensures (a .x) wants refl)
 
 returns-4 : tie.Need-returns-4
 returns-4 c =
@@ -66,7 +66,7 @@ returns-4 c =
     let i = inTime p in
     let a = entry (timed i) .args in
     let asked = entry (timed i) .pre in
-    settled _ _ _ _ (look-takes (a .x) (a .own) (a .other) (asked .runs) (asked .unmarked) (a .s) (asked .found) (waits i) (polls p) (c .before .if3 .left)) (c .take-sender .ensures)
+    settled _ _ _ _ (look-takes (a .x) (a .own) (a .other) (asked .runs) (asked .unmarked) (a .s) (asked .found) (not-overdue i) (polls p) (c .before .if3 .left)) (c .take-sender .ensures)
 
 pub look-at-sender-spec : {M : Type 1} → statement M
 look-at-sender-spec =
