@@ -68,6 +68,8 @@ pub const HELP_ROW: u8 = 12;
 
 pub const SEARCH_ROW: u8 = 14;
 
+pub const SPARK_ROW: u8 = 15;
+
 // Then the fields that `set` can set.
 pub const FLAGS_ROW: u8 = FIRST_FIELD as u8;
 
@@ -100,7 +102,7 @@ pub const NOTHING: u8 = 255;
 const SET_ROW: usize = 13;
 
 // The first row that is a field, and how many fields there are.
-const FIRST_FIELD: usize = 15;
+const FIRST_FIELD: usize = 16;
 
 const FIELDS: usize = 12;
 
@@ -364,6 +366,7 @@ size        b      .
 help               .
 set         t      f
 search      b      .
+spark       b      p
 flags       11111  .
 phase       b      .
 left        n      .

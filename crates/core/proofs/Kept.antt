@@ -6,11 +6,12 @@ use Prim.Native.Nat.{ℕ, _*_, _<_}
 use lib.ListN.{length}
 use borrow.Author.Tests.{lt-leb}
 use Rattle.model.specs.declared.Operation.{Operation}
+use Rattle.model.specs.declared.EntryPoint.{EntryPoint}
 use Rattle.model.specs.declared.Answer.{Answer}
 use Rattle.model.specs.Threads.{newTable, at}
 use Rattle.model.specs.Locks.{lockFree}
 use Rattle.model.specs.WellFormed.{WellFormed, wellFormed}
-use Rattle.model.specs.Calls.{Call, begin, step, cancel, tick, State}
+use Rattle.model.specs.Calls.{Call, beginVia, step, cancel, tick, State}
 use Rattle.model.specs.Refusals.{firstRefusal, unless, noThread, lockOwned, argumentRows, beginRows, laterRows, refusal, makeRefusal}
 use Rattle.model.specs.Promise.{next, Promise, madeTable}
 use Rattle.model.proofs.Laws.{_and_}
@@ -73,6 +74,6 @@ module _ (s : State) (formed : wellFormed (s .table) ≡ true) where
       step-accepted = later-refusal (step x) s formed ∙ rows-passed (argumentRows (s .table) x (length (s .store))) [] (place-passed (s .table) x (length (s .store)) below fit) ∙ first-none
 
       -- a begin is refused by the rows on the thread and its operation alone
-      pub begin-number : (o : Operation) → refusal (begin x o) s ≡ firstRefusal (beginRows (s .table) x o)
+      pub begin-number : (via : EntryPoint) (o : Operation) → refusal (beginVia via x o) s ≡ firstRefusal (beginRows via (s .table) x o)
       unfolding laterRows
-      begin-number o = later-refusal (begin x o) s formed ∙ rows-passed (argumentRows (s .table) x (length (s .store))) (beginRows (s .table) x o) (place-passed (s .table) x (length (s .store)) below fit)
+      begin-number via o = later-refusal (beginVia via x o) s formed ∙ rows-passed (argumentRows (s .table) x (length (s .store))) (beginRows via (s .table) x o) (place-passed (s .table) x (length (s .store)) below fit)

@@ -11,6 +11,7 @@ use borrow.Author.Tests.{le-leb, lt-leb, ltb-true, ltb-false}
 use mir.Val.{Val}
 use denote.Shadow.{shadow}
 use Rattle.model.specs.declared.Operation.{Operation}
+use Rattle.model.specs.declared.EntryPoint.the-variants.{Main}
 use Rattle.model.specs.declared.Thread.{Thread}
 use Rattle.model.specs.declared.Table.{Table}
 use Rattle.model.specs.declared.Answer.{Answer}
@@ -58,7 +59,7 @@ module _ (c : Call) (s : State) where
 module _ (x : ℕ) (o : Operation) (s : State) (e : refusal (begin x o) s ≡ 0) where
   -- what it was tested for
   tested : AcceptedBegin s x o
-  tested = accepted-begin x o s e
+  tested = accepted-begin Main x o s e
 
   -- the thread has a place in the array
   pub begin-place : x < 32

@@ -2,6 +2,7 @@
 ghost use mathlib.Core.Path.{_≡_};
 ghost use mathlib.Core.List.{List, []};
 ghost use Prim.Native.Nat.{ℕ};
+ghost use Rattle.model.specs.declared.EntryPoint.the-variants.{Main};
 ghost use Rattle.model.specs.Threads.{newThread, newTable};
 ghost use Rattle.model.specs.Calls.{Call};
 ghost use Rattle.model.specs.Refusals.{refusal};
@@ -47,10 +48,10 @@ pub fn new_table(n: u8) -> Table
     }
 }
 
-// Thread x begins an operation.
+// Thread x begins an operation. What the spark entry takes, the main entry takes, and does the same.
 pub fn begin(table: Table, x: u8, op: Operation, store: &mut [u32]) -> Returned
-    requires { ⌜ refusal (Call.begin x op) (state table (now store)) ≡ 0 ⌝ }
-    ensures { λ r. ⌜ Promise (Call.begin x op) (state table (now (store .entry))) (r .answer) (state (r .table) (now (store .exit))) ⌝ }
+    requires { ⌜ refusal (Call.beginVia Main x op) (state table (now store)) ≡ 0 ⌝ }
+    ensures { λ r. ⌜ Promise (Call.beginVia Main x op) (state table (now (store .entry))) (r .answer) (state (r .table) (now (store .exit))) ⌝ }
 {
     words::zero_thread(store, x);
     let n = table.n;

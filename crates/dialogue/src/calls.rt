@@ -53,6 +53,13 @@ pub fn begin(session: Session, x: u8, op: Operation, store: &mut [u32], out: &mu
     returned_line(session, returned, out)
 }
 
+// Thread x begins an operation through the spark entry.
+pub fn spark(session: Session, x: u8, op: Operation, store: &mut [u32], out: &mut [u8]) -> Reply {
+    let words = numbers::lesser(session.words, store.len());
+    let returned = engine::spark_begin(session.table, x, op, &mut store[0..words]);
+    returned_line(session, returned, out)
+}
+
 // A step of each thread that is named, in this order.
 pub fn step(session: Session, named: &[u32], store: &mut [u32], out: &mut [u8]) -> Reply {
     let words = numbers::lesser(session.words, store.len());

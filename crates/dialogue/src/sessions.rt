@@ -16,6 +16,7 @@ use commands::SAY_ROW;
 use commands::SEARCH_ROW;
 use commands::SHOW_ROW;
 use commands::SIZE_ROW;
+use commands::SPARK_ROW;
 use commands::STEP_ROW;
 use commands::STORE_ROW;
 use commands::TABLE_ROW;
@@ -67,6 +68,7 @@ fn called(
     match row {
         TABLE_ROW => calls::table(session, x, store, out),
         BEGIN_ROW => calls::begin(session, x, command.op, store, out),
+        SPARK_ROW => calls::spark(session, x, command.op, store, out),
         STEP_ROW => calls::step(session, numbers, store, out),
         CANCEL_ROW => calls::cancel(session, x, out),
         _ => calls::tick(session, numbers, out),
@@ -108,6 +110,11 @@ fn only_prints(row: u8) -> bool {
         OUTCOME_ROW | REPORT_ROW | SHOW_ROW | SAY_ROW | SEARCH_ROW | HELP_ROW => true,
         _ => false,
     }
+}
+
+// Whether a command calls the engine.
+fn calls_engine(row: u8) -> bool {
+    (row <= TICK_ROW) | (row == SPARK_ROW)
 }
 
 // The commands that lend something, or set it by force.
@@ -155,7 +162,7 @@ pub fn respond(
         let end = told(session, row, read, line, store, out);
         return only_text(session, end);
     }
-    if row <= TICK_ROW {
+    if calls_engine(row) {
         return called(session, command, read, store, out);
     }
     forced(session, command, read, store, out)

@@ -3,9 +3,11 @@ ghost use mathlib.Core.Path.{_≡_};
 ghost use mathlib.Core.List.{List};
 ghost use Prim.Native.Nat.{ℕ};
 ghost use Rattle.model.specs.declared.Answer.the-variants.{Refused};
+ghost use Rattle.model.specs.declared.EntryPoint.the-variants.{Main, Spark};
 ghost use Rattle.model.specs.Calls.{Call};
 ghost use Rattle.model.specs.Promise.{state, Promise, MakePromise};
 use model::Answer;
+use model::EntryPoint;
 use model::Operation;
 use model::Returned;
 use model::Table;
@@ -35,9 +37,15 @@ pub fn make(n: u8) -> Returned
     }
 }
 
-// A thread begins an operation.
-pub fn begin(table: Table, thread: u8, op: Operation, store: &mut [u32]) -> Returned
-    ensures { λ r. ⌜ Promise (Call.begin thread op) (state table (now (store .entry))) (r .answer) (state (r .table) (now (store .exit))) ⌝ }
+// A thread begins an operation through an entry.
+fn begin_via(
+    via: EntryPoint,
+    table: Table,
+    thread: u8,
+    op: Operation,
+    store: &mut [u32],
+) -> Returned
+    ensures { λ r. ⌜ Promise (Call.beginVia via thread op) (state table (now (store .entry))) (r .answer) (state (r .table) (now (store .exit))) ⌝ }
 {
     let first = refusals::table_refusal(table);
     if first != 0 {
@@ -49,11 +57,25 @@ pub fn begin(table: Table, thread: u8, op: Operation, store: &mut [u32]) -> Retu
     }
     let i = thread as usize;
     let own = table.threads[i];
-    let third = refusals::begin_refusal(table.n, thread, own, op);
+    let third = refusals::begin_refusal(via, table.n, thread, own, op);
     if third != 0 {
         return refuse(third, table);
     }
     core::begin(table, thread, op, store)
+}
+
+// A thread begins an operation.
+pub fn begin(table: Table, thread: u8, op: Operation, store: &mut [u32]) -> Returned
+    ensures { λ r. ⌜ Promise (Call.beginVia Main thread op) (state table (now (store .entry))) (r .answer) (state (r .table) (now (store .exit))) ⌝ }
+{
+    begin_via(EntryPoint::Main, table, thread, op, store)
+}
+
+// A thread begins an operation of at most three words, through the spark entry.
+pub fn spark_begin(table: Table, thread: u8, op: Operation, store: &mut [u32]) -> Returned
+    ensures { λ r. ⌜ Promise (Call.beginVia Spark thread op) (state table (now (store .entry))) (r .answer) (state (r .table) (now (store .exit))) ⌝ }
+{
+    begin_via(EntryPoint::Spark, table, thread, op, store)
 }
 
 // A thread makes one step.

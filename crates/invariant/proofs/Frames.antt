@@ -10,7 +10,7 @@ use Rattle.model.specs.Threads.{at, edit, marked}
 use Rattle.model.specs.Phases.{lock}
 use Rattle.model.specs.Queues.{joined}
 use Rattle.model.specs.Step.{Action, decide, storeAfter}
-use Rattle.model.specs.Calls.{begun, ticked, tickTable, Call, begin, step, cancel, tick, State, acceptedState}
+use Rattle.model.specs.Calls.{begun, ticked, tickTable, Call, beginVia, step, cancel, tick, State, acceptedState}
 use Rattle.model.specs.Promise.{next}
 use Rattle.laws.proofs.Tables.{OnlyThreads, only-both, edit-only, below-only, act-only}
 use Rattle.laws.proofs.Store.{length-zeroed, length-word-copied, step-store}
@@ -20,7 +20,7 @@ use Rattle.laws.proofs.Calls.{next-cases, begin-cases, cancel-cases}
 -- an accepted call leaves it
 accepted-only : (c : Call) (s : State) → OnlyThreads (s .table) (acceptedState c s .table)
 unfolding acceptedState tickTable
-accepted-only (begin x o) s = let t = s .table in begin-cases x o t (OnlyThreads t)
+accepted-only (beginVia via x o) s = let t = s .table in begin-cases x o t (OnlyThreads t)
     (λ far. edit-only x _ t)
     (λ near sends below. let queued = edit (o .send .target) (joined x) t in
     only-both t queued (edit x (begun o lock) queued) (edit-only (o .send .target) (joined x) t) (edit-only x (begun o lock) queued))
@@ -45,7 +45,7 @@ step-store-length a h store = ⊎-elim (λ e. ap length e) (λ e. ap length (e .
 -- that of an accepted call
 accepted-store-length : (c : Call) (s : State) → length (acceptedState c s .store) ≡ length (s .store)
 unfolding acceptedState
-accepted-store-length (begin x o) s = length-zeroed x (s .store)
+accepted-store-length (beginVia via x o) s = length-zeroed x (s .store)
 accepted-store-length (step x) s = step-store-length (decide (s .table) x) (at (s .table) x) (s .store)
 accepted-store-length (cancel x) s = refl
 accepted-store-length tick s = refl

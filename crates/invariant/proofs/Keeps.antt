@@ -14,7 +14,7 @@ use Rattle.model.specs.Threads.{at, edit}
 use Rattle.model.specs.Queues.{joined}
 use Rattle.model.specs.WellFormed.{Shaped, WellFormed, wellFormed}
 use Rattle.model.specs.Step.{decide}
-use Rattle.model.specs.Calls.{ticked, beginTable, tickTable, Call, begin, step, cancel, tick, State, acceptedState}
+use Rattle.model.specs.Calls.{ticked, beginTable, tickTable, Call, beginVia, step, cancel, tick, State, acceptedState}
 use Rattle.model.specs.Refusals.{refusal}
 use Rattle.model.specs.Promise.{next}
 use Rattle.model.proofs.Tested.{well-formed-tested, well-formed-told}
@@ -59,7 +59,7 @@ begin-kept x o s b whole F = let t = s .table in begin-cases x o t (Kept (t .n))
 -- every accepted call
 accepted-keeps : (c : Call) (s : State) → refusal c s ≡ 0 → length (s .table .threads) ≡ 32 → Formed (s .table .n) (at (s .table)) → Kept (s .table .n) (acceptedState c s .table)
 unfolding acceptedState tickTable
-accepted-keeps (begin x o) s e whole F = begin-kept x o s (accepted-begin x o s e) whole F
+accepted-keeps (beginVia via x o) s e whole F = begin-kept x o s (accepted-begin via x o s e) whole F
 accepted-keeps (step x) s e whole F = record {
   whole = act-length (decide (s .table) x) x (s .table) ∙ whole;
   formed = step-keeps (s .table) F x (accepted-step x s e .below) whole;

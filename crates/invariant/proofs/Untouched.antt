@@ -8,6 +8,7 @@ use native.Mathlib.Omega.{arith}
 use lib.ListN.{length}
 use borrow.Author.Tests.{leb-true}
 use Rattle.model.specs.declared.Operation.{Operation}
+use Rattle.model.specs.declared.EntryPoint.{EntryPoint}
 use Rattle.model.specs.declared.Thread.{Thread}
 use Rattle.model.specs.declared.Table.{Table}
 use Rattle.model.specs.Lists.{update}
@@ -18,7 +19,7 @@ use Rattle.model.specs.Queues.{joined}
 use Rattle.model.specs.Store.{wordsAt, wordCopied}
 use Rattle.model.specs.WellFormed.{inPhase, sendInRange, numbersInRange, sendAndMarkWithIpc, sendersSendSet, Shaped, WellFormed}
 use Rattle.model.specs.Step.{copyWord, decide, otherAfter, act, storeAfter}
-use Rattle.model.specs.Calls.{ticked, beginTable, cancelTable, tickTable, Call, begin, step, cancel, tick, State, acceptedState}
+use Rattle.model.specs.Calls.{ticked, beginTable, cancelTable, tickTable, Call, beginVia, step, cancel, tick, State, acceptedState}
 use Rattle.model.specs.Refusals.{refusal}
 use Rattle.model.specs.Promise.{next}
 use Rattle.model.proofs.Laws.{same?, implies-read, all-of-read}
@@ -63,7 +64,7 @@ cancel-beyond x t xn y l = cancel-cases x t (λ after. at after y ≡ at t y) (�
 -- every accepted call
 accepted-beyond : (c : Call) (s : State) → Shaped (s .table) → refusal c s ≡ 0 → (y : ℕ) → s .table .n ≤ y → at (acceptedState c s .table) y ≡ at (s .table) y
 unfolding acceptedState tickTable
-accepted-beyond (begin x o) s z e y l = begin-beyond x o (s .table) (accepted-begin x o s e .below) y l
+accepted-beyond (beginVia via x o) s z e y l = begin-beyond x o (s .table) (accepted-begin via x o s e .below) y l
 accepted-beyond (step x) s z e y l = step-beyond x (s .table) (z .threads) (found-formed (step x) s z e) (accepted-step x s e .below) y l
 accepted-beyond (cancel x) s z e y l = cancel-beyond x (s .table) (accepted-cancel x s e .below) y l
 accepted-beyond tick s z e y l = below-beyond ticked (s .table) (s .table .n) y l
@@ -76,7 +77,7 @@ next-beyond c s z y l = next-cases c s (λ after. at (after .table) y ≡ at (s 
 -- ---- the words of thread y
 -- the calls that write them: its own begin, and a step that copies a word to it
 pub data Writes (s : State) (y : ℕ) : Call → Type 0 where
-  begins : (o : Operation) → refusal (begin y o) s ≡ 0 → Writes s y (begin y o)
+  begins : (via : EntryPoint) (o : Operation) → refusal (beginVia via y o) s ≡ 0 → Writes s y (beginVia via y o)
   copies : (x : ℕ) → refusal (step x) s ≡ 0 → decide (s .table) x ≡ copyWord → at (s .table) x .op .send .target ≡ y → Writes s y (step x)
 
 -- the message of a thread in copy is short enough, whatever the lengths of the table's arrays
@@ -100,8 +101,8 @@ copied-below x s e i =
 -- every accepted call
 accepted-words : (c : Call) (s : State) → refusal c s ≡ 0 → (y : ℕ) → (wordsAt (acceptedState c s .store) y ≡ wordsAt (s .store) y) ⊎ Writes s y c
 unfolding acceptedState
-accepted-words (begin x o) s e y = same? y x
-    (λ i. inr (subst (λ (k : ℕ). Writes s y (begin k o)) i (begins o (rw i e))))
+accepted-words (beginVia via x o) s e y = same? y x
+    (λ i. inr (subst (λ (k : ℕ). Writes s y (beginVia via k o)) i (begins via o (rw i e))))
     (λ d. inl (words-zeroed-other (s .store) x y d))
 accepted-words (step x) s e y = ⊎-elim
     (λ same. inl (ap (λ (store : List ℕ). wordsAt store y) same))

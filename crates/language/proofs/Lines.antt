@@ -36,7 +36,7 @@ receives receive = record { send = noOperation .send; receive = receive }
 pub data Name : Type 0 where
   empty comment blanks return leading steps step-and-more word-of-digits no-command prefix-of-one missing-one largest-byte above-a-byte a-tick ticks no-ticks ticks-again : Name
   nothing-begun an-open-wait a-call nine-words closed-wait neither-part too-much-behind flags not-a-flag code-below-zero sign-elsewhere only-a-sign field-missing no-field thread-missing : Name
-  thread-past-the-array a-search searches-of-two : Name
+  thread-past-the-array a-search searches-of-two a-spark spark-of-nobody : Name
 
 -- the line and the command of each
 unfoldable pub row : Name → LineRow
@@ -87,6 +87,8 @@ row thread-missing = refuses "set" missing ""
 row thread-past-the-array = refuses "set 32 phase 0" tooLarge "32"
 row a-search = asks "search 31" 14 (31 ∷ [])
 row searches-of-two = refuses "search 0 1" tooMuch "1"
+row a-spark = record { line = "spark 2 receive any 15"; command = asked 15 (2 ∷ []) (receives (Open (record { time = 15; partner = 0 }))) }
+row spark-of-nobody = refuses "spark send 1 15" notNumber "send"
 
 -- each line is the command that stands beside it
 pub lines-read : (n : Name) → commandOf (ascii (row n .line)) ≡ row n .command
@@ -126,6 +128,8 @@ lines-read thread-missing = refl
 lines-read thread-past-the-array = refl
 lines-read a-search = refl
 lines-read searches-of-two = refl
+lines-read a-spark = refl
+lines-read spark-of-nobody = refl
 
 -- ---- lines that are too long to stand in a row
 -- "Words past the eighth are counted, to any number (300 words are refused 9 and do not wrap round), and not kept": the count stays at 255

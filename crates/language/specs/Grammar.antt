@@ -27,6 +27,7 @@ grammar = concat (
     ∷ ascii "help               .\n"
     ∷ ascii "set         t      f\n"
     ∷ ascii "search      b      .\n"
+    ∷ ascii "spark       b      p\n"
     ∷ ascii "flags       11111  .\n"
     ∷ ascii "phase       b      .\n"
     ∷ ascii "left        n      .\n"
@@ -54,11 +55,11 @@ mostNumbers = 7
 
 -- the rows before this are commands, the others are fields
 abbrev pub firstField : ℕ
-firstField = 15
+firstField = 16
 
 -- how many rows there are
 abbrev pub rows : ℕ
-rows = 27
+rows = 28
 
 -- `set`, the command whose second word is a field
 abbrev pub setRow : ℕ

@@ -6,7 +6,7 @@ use mathlib.Core.List.{List, [], _∷_}
 use Prim.Native.Nat.{ℕ}
 use borrow.Author.Tests.{eq-eqb}
 use Rattle.model.specs.Answers.{Said, refused, replied}
-use Rattle.model.specs.Calls.{Call, begin, step, cancel, tick}
+use Rattle.model.specs.Calls.{Call, beginVia, step, cancel, tick}
 use Rattle.model.specs.Codes.{View}
 use Rattle.model.specs.Atomic.{Machine, begins, cancels, ticks, rendezvous, aborts}
 use Rattle.model.specs.Linearization.{Entry, AtCall}
@@ -18,7 +18,7 @@ use Rattle.model.proofs.Laws.{_and_, all-of-made}
 -- an entry that may stand in a call's place is answered alike
 pub placed-tested : (c : Call) (a : Said) (e : Entry) (p : Machine) → AtCall c a e p → answerTest e a p ≡ true
 placed-tested c (refused g) e p h = rw h refl
-placed-tested (begin x o) (replied a) e p h = rw (h .event) (eq-eqb _ _ (ap replyNumber (h .answer)))
+placed-tested (beginVia via x o) (replied a) e p h = rw (h .event) (eq-eqb _ _ (ap replyNumber (h .answer)))
 placed-tested (step x) (replied a) none p h = refl
 placed-tested (step x) (replied a) (some (begins y o)) p h = absurd h
 placed-tested (step x) (replied a) (some (cancels y)) p h = absurd h

@@ -8,9 +8,10 @@ use lib.ListN.{length}
 use lib.Dec.{eqb}
 use borrow.Author.Tests.{leb-false, lt-leb, eqb-true, eq-eqb, not-false}
 use Rattle.model.specs.declared.Operation.{Operation}
+use Rattle.model.specs.declared.EntryPoint.{EntryPoint}
 use Rattle.model.specs.declared.Table.{Table}
 use Rattle.model.specs.WellFormed.{wellFormed}
-use Rattle.model.specs.Calls.{Call, begin, State}
+use Rattle.model.specs.Calls.{Call, beginVia, State}
 use Rattle.model.specs.Refusals.{Row, firstRefusal, badSize, notWellFormed, noThread, badLength, tableRows, argumentRows, beginRows, laterRows, rowsOf, refusal}
 use Rattle.model.proofs.Laws.{_and_}
 use Rattle.model.proofs.Tested.{well-formed-told, formed-few}
@@ -94,13 +95,13 @@ unfolding noThread
 number-below t x f e z = leb-false (t .n) x (none-holds (noThread t x ∷ []) refl (sym e ∙ z) .0)
 
 -- ---- the rows of a begin
-module _ (x : ℕ) (o : Operation) (s : State) where
+module _ (via : EntryPoint) (x : ℕ) (o : Operation) (s : State) where
   -- the rows on the place come first
-  pub place-before-begin : (g : ℕ) → g ≡ firstRefusal (argumentRows (s .table) x (length (s .store))) → g ≢ 0 → g ≡ firstRefusal (laterRows (begin x o) s)
+  pub place-before-begin : (g : ℕ) → g ≡ firstRefusal (argumentRows (s .table) x (length (s .store))) → g ≢ 0 → g ≡ firstRefusal (laterRows (beginVia via x o) s)
   unfolding laterRows
-  place-before-begin g e d = group-refuses (argumentRows (s .table) x (length (s .store))) (beginRows (s .table) x o) g e d
+  place-before-begin g e d = group-refuses (argumentRows (s .table) x (length (s .store))) (beginRows via (s .table) x o) g e d
 
   -- then those on the thread and the operation
-  pub begin-after-place : (f g : ℕ) → f ≡ firstRefusal (argumentRows (s .table) x (length (s .store))) → f ≡ 0 → g ≡ firstRefusal (beginRows (s .table) x o) → g ≡ firstRefusal (laterRows (begin x o) s)
+  pub begin-after-place : (f g : ℕ) → f ≡ firstRefusal (argumentRows (s .table) x (length (s .store))) → f ≡ 0 → g ≡ firstRefusal (beginRows via (s .table) x o) → g ≡ firstRefusal (laterRows (beginVia via x o) s)
   unfolding laterRows
-  begin-after-place f g e z h = group-passes (argumentRows (s .table) x (length (s .store))) (beginRows (s .table) x o) f g (place-numbered (s .table) x (length (s .store))) e z h
+  begin-after-place f g e z h = group-passes (argumentRows (s .table) x (length (s .store))) (beginRows via (s .table) x o) f g (place-numbered (s .table) x (length (s .store))) e z h

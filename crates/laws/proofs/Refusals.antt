@@ -4,20 +4,23 @@ use mathlib.Core.Logic.{_≢_}
 use mathlib.Core.Bool.{true, false, not, _&&_, _||_}
 use mathlib.Core.List.{[], _∷_}
 use Prim.Native.Nat.{ℕ, _*_, _≤_, _<_}
+use native.Mathlib.Omega.{arith}
 use lib.ListN.{length}
 use lib.Dec.{eqb, leb, ltb}
 use borrow.Author.Tests.{ltb-false, leb-false, le-leb, lt-ltb, eqb-true, eqb-false, not-false}
 use Rattle.model.specs.declared.Receive.{Receive}
 use Rattle.model.specs.declared.Operation.{Operation}
+use Rattle.model.specs.declared.EntryPoint.{EntryPoint}
+use Rattle.model.specs.declared.EntryPoint.the-variants.{Main, Spark}
 use Rattle.model.specs.Codes.{nobody}
-use Rattle.model.specs.Operations.{wordLimit, hasReceive, receiveTime, closedOn, targetBeyond, closedBeyond}
+use Rattle.model.specs.Operations.{wordLimit, sparkLimit, hasReceive, receiveTime, closedOn, targetBeyond, closedBeyond}
 use Rattle.model.specs.Times.{isTimeCode}
 use Rattle.model.specs.Phases.{idle, phaseOf}
 use Rattle.model.specs.Threads.{at}
 use Rattle.model.specs.Locks.{lockFree}
 use Rattle.model.specs.WellFormed.{sizeInRange, inPhase, sendInRange, receiveInRange, wellFormed}
-use Rattle.model.specs.Calls.{Call, begin, step, cancel, tick, State}
-use Rattle.model.specs.Refusals.{firstRefusal, badSize, notWellFormed, noThread, badLength, lockOwned, notIdle, neitherPart, withItself, noPartner, tooManyWords, badTime, rowsOf, refusal, makeRefusal, outcomeRefusal, tableRows, argumentRows, beginRows, laterRows}
+use Rattle.model.specs.Calls.{Call, beginVia, sparkBegin, step, cancel, tick, State}
+use Rattle.model.specs.Refusals.{firstRefusal, badSize, notWellFormed, noThread, badLength, lockOwned, notIdle, neitherPart, withItself, noPartner, moreWords, tooManyWords, badTime, rowsOf, refusal, makeRefusal, outcomeRefusal, tableRows, argumentRows, beginRows, laterRows}
 use Rattle.model.proofs.Laws.{implies-made, _and_, all-of-made}
 use Rattle.model.proofs.Numbers.{size-read, size-made}
 use Rattle.laws.proofs.Rows.{numbered, NoneHolds, none-holds}
@@ -28,7 +31,8 @@ use Rattle.laws.proofs.Lists.{or-left, or-right, second-fails}
 -- the rows of every call have numbers
 rows-numbered : (c : Call) (s : State) → numbered (rowsOf c s) ≡ true
 unfolding rowsOf tableRows argumentRows beginRows laterRows badSize notWellFormed noThread badLength lockOwned notIdle neitherPart withItself noPartner tooManyWords badTime
-rows-numbered (begin x o) s = refl
+rows-numbered (beginVia Main x o) s = refl
+rows-numbered (beginVia Spark x o) s = refl
 rows-numbered (step x) s = refl
 rows-numbered (cancel x) s = refl
 rows-numbered tick s = refl
@@ -100,15 +104,25 @@ receive-in-range : (n : ℕ) (r : Receive) → (hasReceive r && not (isTimeCode 
 unfolding receiveInRange
 receive-in-range n r time near = all-of-made _ (implies-made (hasReceive r) _ (λ i. not-false _ (second-fails (hasReceive r) _ time i)) and ap not near and tt)
 
--- what a begin that is not refused has been tested for
-pub accepted-begin : (x : ℕ) (o : Operation) (s : State) → refusal (begin x o) s ≡ 0 → AcceptedBegin s x o
-unfolding rowsOf tableRows argumentRows beginRows laterRows noThread badLength lockOwned notIdle neitherPart withItself noPartner tooManyWords badTime
-accepted-begin x o s e =
-    let (size, (formed, (below, (store, (free, (inIdle, (part, (itself, (partner, (words, (time, end))))))))))) = accepted-rows (begin x o) s e in
+-- a send part that is within a limit has no more words
+within-limit : (limit : ℕ) (o : Operation) → moreWords limit o ≡ false → o .send .present ≡ true → o .send .count ≤ limit
+unfolding moreWords
+within-limit limit o few i = ltb-false limit (o .send .count) (second-fails (o .send .present) (ltb limit (o .send .count)) few i)
+
+-- what passes an entry has at most eight words
+words-fit : (via : EntryPoint) (o : Operation) → tooManyWords via o .when ≡ false → o .send .present ≡ true → o .send .count ≤ wordLimit
+unfolding tooManyWords
+words-fit Main o few i = within-limit wordLimit o few i
+words-fit Spark o few i = omega (arith, within-limit sparkLimit o few i)
+
+-- what a begin that is not refused has been tested for, whatever its entry
+pub accepted-begin : (via : EntryPoint) (x : ℕ) (o : Operation) (s : State) → refusal (beginVia via x o) s ≡ 0 → AcceptedBegin s x o
+unfolding rowsOf tableRows argumentRows beginRows laterRows noThread badLength lockOwned notIdle neitherPart withItself noPartner badTime
+accepted-begin via x o s e =
+    let (size, (formed, (below, (store, (free, (inIdle, (part, (itself, (partner, (words, (time, end))))))))))) = accepted-rows (beginVia via x o) s e in
     let toItself = o .send .present && eqb (o .send .target) x in
     let badSend = o .send .present && not (isTimeCode (o .send .time)) in
     let badWait = hasReceive (o .receive) && not (isTimeCode (receiveTime (o .receive))) in
-    let count : o .send .present ≡ true → o .send .count ≤ wordLimit = λ i. ltb-false wordLimit (o .send .count) (second-fails (o .send .present) (ltb wordLimit (o .send .count)) words i) in
     let sendTime : o .send .present ≡ true → isTimeCode (o .send .time) ≡ true
     = λ i. not-false (isTimeCode (o .send .time)) (second-fails (o .send .present) (not (isTimeCode (o .send .time))) (or-left badSend badWait time) i) in
     record {
@@ -119,9 +133,16 @@ accepted-begin x o s e =
       part = not-false (o .send .present || hasReceive (o .receive)) part;
       otherTarget = λ i. eqb-false (o .send .target) x (second-fails (o .send .present) (eqb (o .send .target) x) (or-left toItself (closedOn (o .receive) x) itself) i);
       otherPartner = or-right toItself (closedOn (o .receive) x) itself;
-      sends = send-in-range (s .table .n) o count sendTime;
+      sends = send-in-range (s .table .n) o (words-fit via o words) sendTime;
       receives = receive-in-range (s .table .n) (o .receive) (or-right badSend badWait time) partner;
     }
+
+-- through the spark entry also for at most three words
+pub spark-words : (x : ℕ) (o : Operation) (s : State) → refusal (sparkBegin x o) s ≡ 0 → o .send .present ≡ true → o .send .count ≤ sparkLimit
+unfolding rowsOf tableRows argumentRows beginRows laterRows tooManyWords
+spark-words x o s e =
+    let (size, (formed, (below, (store, (free, (inIdle, (part, (itself, (partner, (words, later)))))))))) = accepted-rows (sparkBegin x o) s e in
+    within-limit sparkLimit o words
 
 -- ---- making a table
 -- a making that is not refused is of 1 to 32 threads

@@ -12,7 +12,7 @@ use borrow.Author.Tests.{ne-eqb}
 use Rattle.model.specs.Answers.{Said, refused, replied, said}
 use Rattle.model.specs.Codes.{running, nobody, View}
 use Rattle.model.specs.Operations.{hasReceive}
-use Rattle.model.specs.Calls.{Call, begin, step, cancel, tick}
+use Rattle.model.specs.Calls.{Call, beginVia, step, cancel, tick}
 use Rattle.model.specs.Atomic.{Run, nothing, sending, receiving, AtomicThread, Machine, begins, cancels, ticks, rendezvous, aborts, runs, senderAfter, play, CanAbort, cancelledSending, lateSending, cancelledReceiving, lateReceiving, Can}
 use Rattle.model.specs.Linearization.{Observed, Entry, playEntry, played, AtStep, AtCall, Allowed, Follows, FollowsAll, Linearizes}
 use Rattle.model.proofs.Laws.{by, same?}
@@ -92,7 +92,7 @@ module _ (n : ℕ) (small : n ≤ nobody) (p : Machine) where
 -- the place of a call forces its entry, if that of a step does
 place-forced : (call : Call) (a : Said) (p : Machine) (e other : Entry) → AtCall call a e p → AtCall call a other p → (AtStep e → AtStep other → e ≡ other) → e ≡ other
 place-forced call (refused g) p e other h k f = h ∙ sym k
-place-forced (begin x o) (replied a) p e other h k f = h .event ∙ sym (k .event)
+place-forced (beginVia via x o) (replied a) p e other h k f = h .event ∙ sym (k .event)
 place-forced (step x) (replied a) p e other h k f = f h k
 place-forced (cancel x) (replied a) p e other h k f = h .event ∙ sym (k .event)
 place-forced tick (replied a) p e other h k f = h .event ∙ sym (k .event)

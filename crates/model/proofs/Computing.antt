@@ -61,7 +61,7 @@ calls = 0
 
 unfoldable pub refusals : ℕ
 unfolding Refusals.firstRefusal Refusals.unless Refusals.badSize Refusals.notWellFormed Refusals.noThread Refusals.badLength Refusals.lockOwned
-    Refusals.notIdle Refusals.neitherPart Refusals.withItself Refusals.noPartner Refusals.tooManyWords Refusals.badTime Refusals.tableRows
+    Refusals.notIdle Refusals.neitherPart Refusals.withItself Refusals.noPartner Refusals.moreWords Refusals.tooManyWords Refusals.badTime Refusals.tableRows
     Refusals.argumentRows Refusals.beginRows Refusals.laterRows Refusals.rowsOf Refusals.refusal Refusals.makeRefusal Refusals.outcomeRefusal
     Refusals.searchRefusal Refusals.reportRefusal
 refusals = 0

@@ -4,6 +4,8 @@ use mathlib.Core.List.{List}
 use Prim.Native.Nat.{ℕ}
 use Rattle.model.specs.declared.Flags.{Flags}
 use Rattle.model.specs.declared.Operation.{Operation}
+use Rattle.model.specs.declared.EntryPoint.{EntryPoint}
+use Rattle.model.specs.declared.EntryPoint.the-variants.{Main, Spark}
 use Rattle.model.specs.declared.Thread.{Thread}
 use Rattle.model.specs.declared.Table.{Table}
 use Rattle.model.specs.Answers.{Reply, accepted, nothingToCancel}
@@ -48,12 +50,20 @@ ticked h = withLeft (cond (h .flags .ipc) (fall (h .left)) (h .left)) h
 unfoldable pub tickTable : Table → Table
 tickTable t = editBelow (t .n) ticked t
 
--- ---- the calls of a trace, with their arguments
+-- ---- the calls of a trace, with their arguments; document 02, #107: "Both entries share the one table"
 pub data Call : Type 0 where
-  begin : ℕ → Operation → Call
+  beginVia : EntryPoint → ℕ → Operation → Call
   step : ℕ → Call
   cancel : ℕ → Call
   tick : Call
+
+-- document 01's begin, "through the main entry"
+abbrev pub begin : ℕ → Operation → Call
+begin x o = beginVia Main x o
+
+-- "Begins through that entry"
+abbrev pub sparkBegin : ℕ → Operation → Call
+sparkBegin x o = beginVia Spark x o
 
 -- the table and the caller's word store
 pub record State : Type 0 where
@@ -62,14 +72,14 @@ pub record State : Type 0 where
 
 -- what an accepted call answers
 unfoldable pub acceptedReply : Call → State → Reply
-acceptedReply (begin x o) s = accepted
+acceptedReply (beginVia via x o) s = accepted
 acceptedReply (step x) s = replyOf (decide (s .table) x)
 acceptedReply (cancel x) s = cancelReply x (s .table)
 acceptedReply tick s = accepted
 
 -- what an accepted call leaves; begin "zeroes the thread's eight words"
 unfoldable pub acceptedState : Call → State → State
-acceptedState (begin x o) s = record { table = beginTable x o (s .table); store = zeroed x (s .store) }
+acceptedState (beginVia via x o) s = record { table = beginTable x o (s .table); store = zeroed x (s .store) }
 acceptedState (step x) s = let a = decide (s .table) x in record { table = act a x (s .table); store = storeAfter a (at (s .table) x) (s .store) }
 acceptedState (cancel x) s = record { table = cancelTable x (s .table); store = s .store }
 acceptedState tick s = record { table = tickTable (s .table); store = s .store }

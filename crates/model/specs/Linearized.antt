@@ -5,7 +5,7 @@ use Prim.Native.Nat.{ℕ}
 use Rattle.model.specs.declared.Thread.{Thread}
 use Rattle.model.specs.Threads.{at}
 use Rattle.model.specs.Step.{Action, stay, takeLock, abortSend, startCopy, toRelease, copyWord, finishCall, finishSend, freeTarget, retry, toIdle, abortReceive, takeSender, clearPoll, freeSender, decide}
-use Rattle.model.specs.Calls.{Call, begin, step, cancel, tick, State}
+use Rattle.model.specs.Calls.{Call, beginVia, step, cancel, tick, State}
 use Rattle.model.specs.Refusals.{unless, refusal}
 use Rattle.model.specs.Promise.{next}
 use Rattle.model.specs.Atomic.{begins, cancels, ticks, rendezvous, aborts}
@@ -31,7 +31,7 @@ eventOf freeSender x h = none
 
 -- the entry of an accepted call
 unfoldable pub acceptedEntry : Call → State → Entry
-acceptedEntry (begin x o) s = some (begins x o)
+acceptedEntry (beginVia via x o) s = some (begins x o)
 acceptedEntry (step x) s = eventOf (decide (s .table) x) x (at (s .table) x)
 acceptedEntry (cancel x) s = some (cancels x)
 acceptedEntry tick s = some ticks

@@ -56,6 +56,10 @@ targetBeyond n o = o .send .present && leb n (o .send .target)
 abbrev pub wordLimit : ℕ
 wordLimit = 8
 
+-- document 02, #107: "at most 3 words"
+abbrev pub sparkLimit : ℕ
+sparkLimit = 3
+
 -- the words of a message: the first `count` of the eight
 unfoldable pub message : SendPart → List ℕ
 message part = upTo (part .count) (λ i. getD (part .words) i 0)

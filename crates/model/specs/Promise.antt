@@ -1,20 +1,22 @@
 -- What each public call returns and leaves, refused or not. Contracts cite these definitions, and the linearization is about them.
 use mathlib.Core.Path.{_≡_}
-use mathlib.Core.Bool.{cond}
+use mathlib.Core.Bool.{true, cond}
 use mathlib.Core.List.{List, []}
 use mathlib.Core.Option.{Option·getD}
-use Prim.Native.Nat.{ℕ, _*_}
+use Prim.Native.Nat.{ℕ, _*_, _≤_}
 use lib.ListN.{length, take}
+use Rattle.model.specs.declared.Operation.{Operation}
 use Rattle.model.specs.declared.Outcome.{Outcome}
 use Rattle.model.specs.declared.Table.{Table}
 use Rattle.model.specs.declared.Answer.{Answer}
 use Rattle.model.specs.Lists.{upTo}
 use Rattle.model.specs.Answers.{accepted, Said, refused, replied, said, SaidOutcome, shown, SaidSearch, notReceiving, searched}
 use Rattle.model.specs.Codes.{View, nobody}
+use Rattle.model.specs.Operations.{sparkLimit}
 use Rattle.model.specs.Threads.{newTable, at}
 use Rattle.model.specs.Queues.{findSender, placesRead}
 use Rattle.model.specs.Store.{wordsAt}
-use Rattle.model.specs.Calls.{Call, State, acceptedReply, acceptedState}
+use Rattle.model.specs.Calls.{Call, begin, sparkBegin, State, acceptedReply, acceptedState}
 use Rattle.model.specs.Refusals.{unless, refusal, makeRefusal, outcomeRefusal, searchRefusal, reportRefusal}
 
 -- ---- begin, step, cancel, tick
@@ -34,6 +36,12 @@ state t store = record { table = t; store = store }
 pub record Promise (c : Call) (before : State) (a : Answer) (after : State) : Type 0 where
   pub answers : said a ≡ answer c before
   pub leaves : after ≡ next c before
+
+-- document 02, #107: "a begin of at most 3 words returns and leaves the same through either"; only a send part has words
+abbrev pub EitherEntry : Type 0
+EitherEntry =
+    (x : ℕ) (o : Operation) (s : State) → (o .send .present ≡ true → o .send .count ≤ sparkLimit)
+    → (answer (sparkBegin x o) s ≡ answer (begin x o) s) × (next (sparkBegin x o) s ≡ next (begin x o) s)
 
 -- ---- making a table
 -- what making a table answers

@@ -5,14 +5,16 @@ use Prim.Native.Nat.{ℕ, zero, suc, _*_}
 use lib.ListN.{length}
 use lib.Dec.{eqb, leb, ltb}
 use Rattle.model.specs.declared.Operation.{Operation}
+use Rattle.model.specs.declared.EntryPoint.{EntryPoint}
+use Rattle.model.specs.declared.EntryPoint.the-variants.{Main, Spark}
 use Rattle.model.specs.declared.Table.{Table}
-use Rattle.model.specs.Operations.{closedBeyond, wordLimit, hasReceive, receiveTime, closedOn}
+use Rattle.model.specs.Operations.{closedBeyond, wordLimit, sparkLimit, hasReceive, receiveTime, closedOn}
 use Rattle.model.specs.Times.{isTimeCode}
 use Rattle.model.specs.Phases.{idle}
 use Rattle.model.specs.Threads.{at}
 use Rattle.model.specs.Locks.{lockFree}
 use Rattle.model.specs.WellFormed.{sizeInRange, inPhase, wellFormed}
-use Rattle.model.specs.Calls.{Call, begin, step, cancel, tick, State}
+use Rattle.model.specs.Calls.{Call, beginVia, step, cancel, tick, State}
 
 -- "When", and the number that is "Returned"
 pub record Row : Type 0 where
@@ -65,9 +67,14 @@ withItself x o = record { when = o .send .present && eqb (o .send .target) x || 
 unfoldable pub noPartner : Table → Operation → Row
 noPartner t o = record { when = closedBeyond (t .n) (o .receive); number = 8 }
 
--- "send part of more than 8 words"
-unfoldable pub tooManyWords : Operation → Row
-tooManyWords o = record { when = o .send .present && ltb wordLimit (o .send .count); number = 9 }
+-- a send part of more words than a limit
+unfoldable pub moreWords : ℕ → Operation → Bool
+moreWords limit o = o .send .present && ltb limit (o .send .count)
+
+-- "send part of more than 8 words"; document 02, #107: "16, more than 3 words through the spark entry, in the place of 9"
+unfoldable pub tooManyWords : EntryPoint → Operation → Row
+tooManyWords Main o = record { when = moreWords wordLimit o; number = 9 }
+tooManyWords Spark o = record { when = moreWords sparkLimit o; number = 16 }
 
 -- "time code above 15 in a part it has"
 unfoldable pub badTime : Operation → Row
@@ -84,13 +91,13 @@ tableRows t = badSize (t .n) ∷ notWellFormed t ∷ []
 unfoldable pub argumentRows : Table → ℕ → ℕ → List Row
 argumentRows t x words = noThread t x ∷ badLength (8 * t .n) words ∷ []
 
--- the rows on a thread that begins and on its operation
-unfoldable pub beginRows : Table → ℕ → Operation → List Row
-beginRows t x o = lockOwned t x ∷ notIdle t x ∷ neitherPart o ∷ withItself x o ∷ noPartner t o ∷ tooManyWords o ∷ badTime o ∷ []
+-- the rows on a thread that begins and on its operation, by the entry
+unfoldable pub beginRows : EntryPoint → Table → ℕ → Operation → List Row
+beginRows via t x o = lockOwned t x ∷ notIdle t x ∷ neitherPart o ∷ withItself x o ∷ noPartner t o ∷ tooManyWords via o ∷ badTime o ∷ []
 
 -- the rows of each call after those on the table
 unfoldable pub laterRows : Call → State → List Row
-laterRows (begin x o) s = argumentRows (s .table) x (length (s .store)) ++ beginRows (s .table) x o
+laterRows (beginVia via x o) s = argumentRows (s .table) x (length (s .store)) ++ beginRows via (s .table) x o
 laterRows (step x) s = argumentRows (s .table) x (length (s .store))
 laterRows (cancel x) s = noThread (s .table) x ∷ lockOwned (s .table) x ∷ []
 laterRows tick s = []

@@ -37,6 +37,12 @@ pub struct Operation {
     pub receive: Receive,
 }
 
+// The entry by which an operation begins: the main one, or the one for messages of few words.
+pub enum EntryPoint {
+    Main,
+    Spark,
+}
+
 // The senders that wait at a thread: the first len of items, the earliest first.
 pub struct Queue {
     pub items: [u8; 32],

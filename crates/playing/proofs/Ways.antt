@@ -7,6 +7,7 @@ use Prim.Native.Nat.{ℕ, suc, _+_, _≤_, _<_}
 use native.Mathlib.Omega.{arith}
 use borrow.Author.Tests.{le-leb, lt-leb, eq-eqb, ne-eqb}
 use Rattle.model.specs.declared.Operation.{Operation}
+use Rattle.model.specs.declared.EntryPoint.the-variants.{Main}
 use Rattle.model.specs.declared.Thread.{Thread}
 use Rattle.model.specs.declared.Table.{Table}
 use Rattle.model.specs.declared.Answer.{Answer}
@@ -92,8 +93,8 @@ module _ {from : Playback} {store₀ bytes : List ℕ} {n : ℕ} {store : List �
     cancel-runs words free = cancel-accepted (state now words) formed x in-table (eq-eqb (at now x .owner) nobody free)
 
     -- a begin of it may run if no row of its own refuses it
-    pub begin-runs : (o : Operation) (g : ℕ) → g ≡ firstRefusal (beginRows now x o) → g ≡ 0 → refusal (begin x o) (state now store) ≡ 0
-    begin-runs o g is none-does = begin-number (state now store) formed x in-table (G .runnable .words) o ∙ sym is ∙ none-does
+    pub begin-runs : (o : Operation) (g : ℕ) → g ≡ firstRefusal (beginRows Main now x o) → g ≡ 0 → refusal (begin x o) (state now store) ≡ 0
+    begin-runs o g is none-does = begin-number (state now store) formed x in-table (G .runnable .words) Main o ∙ sym is ∙ none-does
 
   module _ (to : ℕ) (passes : to ≡ place + recordLength (kindByte rest)) where
     -- a tick
@@ -132,7 +133,7 @@ module _ {from : Playback} {store₀ bytes : List ℕ} {n : ℕ} {store : List �
 
       -- a begin
       module _ (ticks : kindByte rest ≢ tickKind) (steps : kindByte rest ≢ stepKind) (cancels : kindByte rest ≢ cancelKind) (o : Operation) (reads : o ≡ operationOf rest) (g : ℕ)
-          (rows : g ≡ firstRefusal (beginRows now x o)) where
+          (rows : g ≡ firstRefusal (beginRows Main now x o)) where
         -- the call of the record
         calls : kindByte rest ≡ beginKind
         calls = must-begin rest good ticks steps cancels
@@ -140,7 +141,7 @@ module _ {from : Playback} {store₀ bytes : List ℕ} {n : ℕ} {store : List �
         -- one that is refused
         pub way-refused : g ≢ 0 → Goes from store₀ bytes n store now (records + 1) (refused + 1) to
         way-refused d = turn-refused G good to passes (begin x o) (calls-begin rest calls ∙ ap (λ (k : Operation). begin x k) (sym reads))
-            (λ e. d (rows ∙ sym (begin-number (state now store) formed x (in-table below) (G .runnable .words) o) ∙ e))
+            (λ e. d (rows ∙ sym (begin-number (state now store) formed x (in-table below) (G .runnable .words) Main o) ∙ e))
 
         -- one that is accepted
         pub way-begin : g ≡ 0 → (a : Answer) (after : Table) (words : List ℕ) → Promise (begin x o) (state now store) a (state after words) → Goes from store₀ bytes n words after (records + 1) refused to

@@ -3,6 +3,7 @@ ghost use mathlib.Core.Path.{_≡_};
 ghost use lib.ListN.{length};
 ghost use Rattle.pieces.specs.Playing.{wholeRecord};
 ghost use Rattle.playing.specs.Playback.{Playable, PlayPromise, Carries};
+use model::EntryPoint;
 use opening::Playback;
 
 // How far playing came, and whether an unlawful record stands there.
@@ -94,7 +95,7 @@ pub fn play(from: Playback, store: &mut [u32], bytes: &[u8]) -> Played
         }
         // a begin
         let op = reading::operation_at(record);
-        if refusals::begin_refusal(n, x, own, op) != 0 {
+        if refusals::begin_refusal(EntryPoint::Main, n, x, own, op) != 0 {
             refused += 1;
             continue;
         }

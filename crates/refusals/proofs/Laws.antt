@@ -7,6 +7,8 @@ use native.Mathlib.Omega.{arith}
 use lib.Dec.{eqb, leb, ltb}
 use borrow.Author.Tests.{lt-ltb, le-ltb, leb-true, leb-false, eq-eqb, ne-eqb}
 use Rattle.model.specs.declared.Operation.{Operation}
+use Rattle.model.specs.declared.EntryPoint.{EntryPoint}
+use Rattle.model.specs.declared.EntryPoint.the-variants.{Main, Spark}
 use Rattle.model.specs.declared.Thread.{Thread}
 use Rattle.model.specs.declared.Table.{Table}
 use Rattle.model.specs.Times.{isTimeCode}
@@ -14,7 +16,7 @@ use Rattle.model.specs.Operations.{hasReceive, receiveTime}
 use Rattle.model.specs.Phases.{isOneOf, idle, phaseNumber}
 use Rattle.model.specs.Threads.{at}
 use Rattle.model.specs.WellFormed.{inPhase}
-use Rattle.model.specs.Refusals.{Row, firstRefusal, notIdle, badTime}
+use Rattle.model.specs.Refusals.{Row, firstRefusal, notIdle, tooManyWords, badTime}
 use Rattle.model.proofs.Laws.{by}
 use Rattle.laws.proofs.Lists.{cond-true, cond-false, zero-or-not}
 use Rattle.laws.proofs.Rows.{numbered, group-refuses, group-passes}
@@ -30,6 +32,12 @@ first-joined a b f g k e h = zero-or-not f
 -- a row by another form of its test
 pub row-as : (number : ℕ) (b c : Bool) → b ≡ c → firstRefusal (record { when = b; number = number } ∷ []) ≡ firstRefusal (record { when = c; number = number } ∷ [])
 row-as number b c e = ap (λ (d : Bool). firstRefusal (record { when = d; number = number } ∷ [])) e
+
+-- the row on words has a number through either entry
+pub words-numbered : (via : EntryPoint) (o : Operation) → numbered (tooManyWords via o ∷ []) ≡ true
+unfolding tooManyWords
+words-numbered Main o = refl
+words-numbered Spark o = refl
 
 -- the row on the phase by its test
 pub idle-row : (t : Table) (x : ℕ) (h : Thread) → at t x ≡ h → not (eqb (h .phase) (phaseNumber idle)) ≡ notIdle t x .when

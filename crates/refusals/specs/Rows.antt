@@ -4,6 +4,7 @@ use mathlib.Core.List.{List, [], _∷_}
 use Prim.Native.Nat.{ℕ}
 use lib.Dec.{eqb}
 use Rattle.model.specs.declared.Operation.{Operation}
+use Rattle.model.specs.declared.EntryPoint.{EntryPoint}
 use Rattle.model.specs.declared.Table.{Table}
 use Rattle.model.specs.Refusals.{Row, lockOwned, notIdle, neitherPart, withItself, noPartner, tooManyWords, badTime}
 
@@ -16,5 +17,5 @@ unfoldable pub threadRows : Table → ℕ → List Row
 threadRows t x = lockOwned t x ∷ notIdle t x ∷ []
 
 -- the rows on the operation that it begins
-unfoldable pub operationRows : Table → ℕ → Operation → List Row
-operationRows t x o = neitherPart o ∷ withItself x o ∷ noPartner t o ∷ tooManyWords o ∷ badTime o ∷ []
+unfoldable pub operationRows : EntryPoint → Table → ℕ → Operation → List Row
+operationRows via t x o = neitherPart o ∷ withItself x o ∷ noPartner t o ∷ tooManyWords via o ∷ badTime o ∷ []

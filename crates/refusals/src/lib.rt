@@ -4,14 +4,16 @@ ghost use mathlib.Core.List.{[], _∷_};
 ghost use Prim.Native.Nat.{ℕ};
 ghost use Rattle.model.specs.declared.Table.{Table};
 ghost use Rattle.model.specs.Threads.{at};
-ghost use Rattle.model.specs.Refusals.{firstRefusal, noThread, badLength, lockOwned, tableRows, argumentRows, beginRows, makeRefusal};
+ghost use Rattle.model.specs.Refusals.{firstRefusal, noThread, badLength, lockOwned, tooManyWords, tableRows, argumentRows, beginRows, makeRefusal};
 ghost use Rattle.refusals.specs.Rows.{firstOf, threadRows, operationRows};
+use model::EntryPoint;
 use model::Operation;
 use model::Table;
 use model::Thread;
 use threads::IDLE;
 use threads::LAST_TIME_CODE;
 use threads::NOBODY;
+use threads::SPARK_LIMIT;
 use threads::WORD_LIMIT;
 
 // The number of a row that holds, else 0.
@@ -89,9 +91,20 @@ fn thread_refusal(h: Thread) -> u8
     first(lock, phase)
 }
 
+// The operation has more words than its entry takes.
+fn words_refusal(via: EntryPoint, op: Operation) -> u8
+    ensures { λ r. ⌜ r ≡ firstRefusal (tooManyWords via op ∷ []) ⌝ }
+{
+    let send = op.send;
+    match via {
+        EntryPoint::Main => row(send.present & (WORD_LIMIT < send.count), 9),
+        EntryPoint::Spark => row(send.present & (SPARK_LIMIT < send.count), 16),
+    }
+}
+
 // The rows on the operation that thread x begins.
-fn operation_refusal(n: u8, x: u8, op: Operation) -> u8
-    ensures { λ r. ⌜ ((t : Table) → t .n ≡ n → r ≡ firstRefusal (operationRows t x op)) ⌝ }
+fn operation_refusal(via: EntryPoint, n: u8, x: u8, op: Operation) -> u8
+    ensures { λ r. ⌜ ((t : Table) → t .n ≡ n → r ≡ firstRefusal (operationRows via t x op)) ⌝ }
 {
     let send = op.send;
     let receive = op.receive;
@@ -103,7 +116,7 @@ fn operation_refusal(n: u8, x: u8, op: Operation) -> u8
         7,
     );
     let partner = row(threads::closed_beyond(n, receive), 8);
-    let words = row(send.present & (WORD_LIMIT < send.count), 9);
+    let words = words_refusal(via, op);
     let time = row(
         (send.present & (LAST_TIME_CODE < send.time)) | (receives & (LAST_TIME_CODE < waits)),
         10,
@@ -112,10 +125,10 @@ fn operation_refusal(n: u8, x: u8, op: Operation) -> u8
 }
 
 // The rows on the thread that begins, which is h, and on its operation.
-pub fn begin_refusal(n: u8, x: u8, h: Thread, op: Operation) -> u8
-    ensures { λ r. ⌜ ((t : Table) → t .n ≡ n → at t x ≡ h → r ≡ firstRefusal (beginRows t x op)) ⌝ }
+pub fn begin_refusal(via: EntryPoint, n: u8, x: u8, h: Thread, op: Operation) -> u8
+    ensures { λ r. ⌜ ((t : Table) → t .n ≡ n → at t x ≡ h → r ≡ firstRefusal (beginRows via t x op)) ⌝ }
 {
     let thread = thread_refusal(h);
-    let operation = operation_refusal(n, x, op);
+    let operation = operation_refusal(via, n, x, op);
     first(thread, operation)
 }

@@ -117,6 +117,7 @@ pub fn put_help(out: &mut [u8], start: usize) -> usize {
         b"\
 table N                  a new table of N threads (1 to 32), a store of zeros, records for the report
 begin X PARTS            thread X begins; PARTS: [send T CODE WORD ..] [receive any CODE | receive P CODE]
+spark X PARTS            the same through the spark entry, which takes at most three words
 step X ..                one step of each thread named
 cancel X                 cancels what X runs
 tick [K]                 one tick, or K

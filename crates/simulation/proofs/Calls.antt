@@ -11,7 +11,7 @@ use Rattle.model.specs.Lists.{update}
 use Rattle.model.specs.Threads.{at, editBelow, marked}
 use Rattle.model.specs.Store.{wordsAt}
 use Rattle.model.specs.Step.{Action, stay, takeLock, abortSend, startCopy, toRelease, copyWord, finishCall, finishSend, freeTarget, retry, toIdle, abortReceive, takeSender, clearPoll, freeSender, decide}
-use Rattle.model.specs.Calls.{cancelTable, cancelReply, ticked, tickTable, Call, begin, step, cancel, tick, State, acceptedReply, acceptedState}
+use Rattle.model.specs.Calls.{cancelTable, cancelReply, ticked, tickTable, Call, beginVia, step, cancel, tick, State, acceptedReply, acceptedState}
 use Rattle.model.specs.Refusals.{refusal}
 use Rattle.model.specs.Atomic.{Machine, cancels, ticks, cancelling, ticking, play, reply}
 use Rattle.model.specs.Linearization.{alike, AtStep, AtAccepted}
@@ -76,7 +76,7 @@ tick-leads t {p} {store} S whole = record {
 pub call-leads : (c : Call) (s : State) {p : Machine} → refusal c s ≡ 0 → length (s .table .threads) ≡ 32 → Simulates (s .table .n) p (at (s .table)) (s .store)
     → Leads (s .table .n) (acceptedEntry c s) p (at (acceptedState c s .table)) (acceptedState c s .store)
 unfolding acceptedEntry acceptedState
-call-leads (begin x o) s e whole S = begin-leads s S whole x o (accepted-begin x o s e)
+call-leads (beginVia via x o) s e whole S = begin-leads s S whole x o (accepted-begin via x o s e)
 call-leads (step x) s e whole S = step-leads (s .table) S x (accepted-step x s e .below) whole
 call-leads (cancel x) s e whole S = cancel-leads (s .table) S x (accepted-cancel x s e .below) whole
 call-leads tick s e whole S = tick-leads (s .table) S whole
@@ -103,7 +103,7 @@ event-at-step freeSender x h = tt
 -- the entry of an accepted call may stand in its place, and begin, cancel and tick answer as the atomic machine does
 pub call-placed : (c : Call) (s : State) {p : Machine} → refusal c s ≡ 0 → Simulates (s .table .n) p (at (s .table)) (s .store) → AtAccepted c (acceptedReply c s) (acceptedEntry c s) p
 unfolding acceptedEntry acceptedReply reply
-call-placed (begin x o) s e S = record { event = refl; answer = refl }
+call-placed (beginVia via x o) s e S = record { event = refl; answer = refl }
 call-placed (step x) s e S = event-at-step (decide (s .table) x) x (at (s .table) x)
 call-placed (cancel x) s e S = record { event = refl; answer = cancel-answers (s .table) S x (accepted-cancel x s e .below) }
 call-placed tick s e S = record { event = refl; answer = refl }

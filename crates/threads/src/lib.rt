@@ -53,6 +53,9 @@ pub const UNLOCK: u8 = 8;
 // The most words of a message.
 pub const WORD_LIMIT: u8 = 8;
 
+// The most words of a message that begins through the spark entry.
+pub const SPARK_LIMIT: u8 = 3;
+
 // The largest time code.
 pub const LAST_TIME_CODE: u8 = 15;
 

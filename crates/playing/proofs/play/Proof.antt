@@ -10,6 +10,7 @@ use Rattle.model.specs.Codes.{nobody}
 use Rattle.model.specs.Threads.{at, put, editBelow}
 use Rattle.model.specs.WellFormed.{Shaped}
 use Rattle.model.specs.Step.{other}
+use Rattle.model.specs.declared.EntryPoint.the-variants.{Main}
 use Rattle.model.specs.Calls.{ticked, begin, step, State}
 use Rattle.model.specs.Refusals.{refusal, firstRefusal, beginRows}
 use Rattle.model.specs.Promise.{state}
@@ -220,7 +221,7 @@ asks a = a .before .before
 
 -- the number that they give
 rows : (a : Asked) → let b = beginning (asks a) in
-    a .begin-refusal .result ≡ firstRefusal (beginRows (was b .table) (x b) (a .before .operation-at .result))
+    a .begin-refusal .result ≡ firstRefusal (beginRows Main (was b .table) (x b) (a .before .operation-at .result))
 unfolding at
 rows a = a .begin-refusal .ensures _ (sized (beginning (asks a))) refl
 
@@ -388,8 +389,8 @@ loop-again-9 c =
     (q .join-queue .ensures) (c .begin-own .ensures) (j .joined-thread .ensures))
 
 -- ---- the end
-add-t106 : tie.Need-add-t106 Inv-loop2 μ-loop2 Inv-loop μ-loop
-add-t106 c = let l = last (c .before .before .before) in omega (arith, l .loop .inv .within, start l .pre .room)
+add-t107 : tie.Need-add-t107 Inv-loop2 μ-loop2 Inv-loop μ-loop
+add-t107 c = let l = last (c .before .before .before) in omega (arith, l .loop .inv .within, start l .pre .room)
 
 same-length : tie.Need-same-length Inv-loop2 μ-loop2 Inv-loop μ-loop
 same-length c =
@@ -484,4 +485,4 @@ play-spec =
     (λ c. omega (arith, last c .loop .inv .within))
     (λ c. omega (arith, last c .loop .inv .within))
     (λ c. search needs) (λ c κs. search needs)
-    add-t106 same-length returns)
+    add-t107 same-length returns)

@@ -19,7 +19,7 @@ returns : tie.Need-returns
 unfolding beginRows threadRows operationRows lockOwned notIdle
 returns c =
     let a = c .before .before .before .args in
-    λ t e is. c .first .ensures ∙ first-joined (threadRows t (a .x)) (operationRows t (a .x) (a .op)) _ _ refl (c .before .before .thread-refusal .ensures t (a .x) is) (c .before .operation-refusal .ensures t e)
+    λ t e is. c .first .ensures ∙ first-joined (threadRows t (a .x)) (operationRows (a .via) t (a .x) (a .op)) _ _ refl (c .before .before .thread-refusal .ensures t (a .x) is) (c .before .operation-refusal .ensures t e)
 
 pub begin-refusal-spec : {M : Type 1} → statement M
 begin-refusal-spec =

@@ -7,7 +7,7 @@ use borrow.Author.Needs.{needs}
 use Rattle.model.specs.declared.Table.{Table}
 use Rattle.model.specs.Refusals.{firstRefusal, neitherPart, withItself, noPartner, tooManyWords, badTime}
 use Rattle.model.specs.Operations.{closedBeyond}
-use Rattle.refusals.proofs.Laws.{first-joined, row-as, time-row}
+use Rattle.refusals.proofs.Laws.{first-joined, row-as, words-numbered, time-row}
 use Rattle.refusals.specs.Rows.{operationRows}
 use Rattle.refusals.proofs.operation_refusal.Statement.{statement}
 use Rattle.refusals.proofs.operation_refusal.Tie as tie
@@ -70,22 +70,21 @@ partner w t e =
 
 -- the row on too many words is tested
 abbrev Words : Type 0
-Words = tie.After-row4
+Words = tie.After-words-refusal
 
 abbrev to-partner : Words → Partner
-to-partner w = w .before .before .before
+to-partner w = w .before
 
 abbrev words-read : Words → Read
 words-read w = partner-read (to-partner w)
 
 -- what it says
-words : (w : Words) → w .row4 .result ≡ firstRefusal (tooManyWords (entry (words-read w) .args .op) ∷ [])
-unfolding tooManyWords
-words w = w .row4 .ensures
+words : (w : Words) → let a = entry (words-read w) .args in w .words-refusal .result ≡ firstRefusal (tooManyWords (a .via) (a .op) ∷ [])
+words w = w .words-refusal .ensures
 
 -- the row on time codes is tested
 abbrev Time : Type 0
-Time = tie.After-row5
+Time = tie.After-row4
 
 abbrev to-words : Time → Words
 to-words w = w .before .before .before
@@ -94,11 +93,11 @@ abbrev time-read : Time → Read
 time-read w = words-read (to-words w)
 
 -- what it says
-time : (w : Time) → w .row5 .result ≡ firstRefusal (badTime (entry (time-read w) .args .op) ∷ [])
+time : (w : Time) → w .row4 .result ≡ firstRefusal (badTime (entry (time-read w) .args .op) ∷ [])
 unfolding badTime
 time w =
     let r = time-read w in
-    w .row5 .ensures ∙ row-as 10 _ _ (time-row (entry r .args .op) _ _ (r .before .has-receive .ensures) (r .receive-time .ensures))
+    w .row4 .ensures ∙ row-as 10 _ _ (time-row (entry r .args .op) _ _ (r .before .has-receive .ensures) (r .receive-time .ensures))
 
 -- ---- the rows are joined, the last two first
 returns : tie.Need-returns
@@ -113,7 +112,7 @@ returns c = λ t e.
     c .first4 .ensures ∙ first-joined (neitherPart (a .op) ∷ []) _ _ _ refl (neither first)
     (c .before .first3 .ensures ∙ first-joined (withItself (a .x) (a .op) ∷ []) _ _ _ refl (itself second)
     (c .before .before .first2 .ensures ∙ first-joined (noPartner t (a .op) ∷ []) _ _ _ refl (partner third t e)
-    (c .before .before .before .first .ensures ∙ first-joined (tooManyWords (a .op) ∷ []) (badTime (a .op) ∷ []) _ _ refl (words fourth) (time last))))
+    (c .before .before .before .first .ensures ∙ first-joined (tooManyWords (a .via) (a .op) ∷ []) (badTime (a .op) ∷ []) _ _ (words-numbered (a .via) (a .op)) (words fourth) (time last))))
 
 pub operation-refusal-spec : {M : Type 1} → statement M
 operation-refusal-spec =

@@ -6,23 +6,24 @@ use lib.ListN.{length}
 use denote.Ref.{now}
 use borrow.Author.Needs.{needs}
 use Rattle.model.specs.declared.Answer.the-variants.{Refused}
-use Rattle.model.specs.Calls.{Call, State, begin}
+use Rattle.model.specs.Calls.{Call, beginVia, State}
 use Rattle.model.specs.Promise.{state, Promise}
-use Rattle.model.specs.Refusals.{firstRefusal, argumentRows, beginRows, laterRows}
+use Rattle.model.specs.Refusals.{firstRefusal, argumentRows, beginRows, laterRows, refusal}
 use Rattle.model.specs.Threads.{at}
 use Rattle.laws.proofs.Groups.{table-formed, table-few, place-below, place-store, place-before-begin, begin-after-place}
+use Rattle.laws.proofs.Entries.{main-takes, promised-via}
 use Rattle.core.proofs.Kept.{begin-number}
 use Rattle.engine.proofs.Refused.{refused-as, table-refuses, later-refuses}
-use Rattle.engine.proofs.begin.Statement.{statement}
-use Rattle.engine.proofs.begin.Tie as tie
+use Rattle.engine.proofs.begin_via.Statement.{statement}
+use Rattle.engine.proofs.begin_via.Tie as tie
 
 -- ---- the places of the code from which the needs below speak; each leads back to the one before
 -- at the entry: the call, and the state that it finds
 abbrev call : tie.Start → Call
-call s = begin (s .args .thread) (s .args .op)
+call s = beginVia (s .args .via) (s .args .thread) (s .args .op)
 
 abbrev found : tie.Start → State
-found s = state (s .args .t1) (now (s .args .store))
+found s = state (s .args .t2) (now (s .args .store))
 
 -- the rows on the table are tested
 abbrev TableTested : Type 0
@@ -40,7 +41,7 @@ table-tested p = p .before .before
 
 -- what they say
 place-rows : (p : PlaceTested) → let s = entry (table-tested p) in
-    p .argument-refusal .result ≡ firstRefusal (argumentRows (s .args .t1) (s .args .thread) (length (now (s .args .store))))
+    p .argument-refusal .result ≡ firstRefusal (argumentRows (s .args .t2) (s .args .thread) (length (now (s .args .store))))
 place-rows p = p .argument-refusal .ensures _ refl
 
 -- the first row that holds after those on the table refuses the call
@@ -57,9 +58,28 @@ place-tested b = b .before .before .before
 
 -- what they say
 begin-rows : (b : BeginTested) → let s = entry (table-tested (place-tested b)) in
-    b .begin-refusal .result ≡ firstRefusal (beginRows (s .args .t1) (s .args .thread) (s .args .op))
+    b .begin-refusal .result ≡ firstRefusal (beginRows (s .args .via) (s .args .t2) (s .args .thread) (s .args .op))
 unfolding at
 begin-rows b = b .begin-refusal .ensures _ refl refl
+
+-- none of these holds either
+abbrev Passed : Type 0
+Passed = tie.Else3
+
+abbrev start : Passed → tie.Start
+start q = entry (table-tested (place-tested (q .before)))
+
+-- so the call is not refused
+accepted : (q : Passed) → refusal (call (start q)) (found (start q)) ≡ 0
+accepted q =
+    let b = q .before in
+    let p = place-tested b in
+    let s = start q in
+    let t = s .args .t2 in
+    let none = b .before .before .if2 .left in
+    begin-number (found s) (table-formed t _ (table-tested p .table-refusal .ensures) (p .before .if1 .left)) (s .args .thread)
+    (place-below t _ _ _ (place-rows p) none) (place-store t _ _ _ (place-rows p) none) (s .args .via) (s .args .op)
+    ∙ sym (begin-rows b) ∙ q .if3 .left
 
 -- ---- the needs
 -- a row on the table refuses
@@ -74,12 +94,12 @@ returns-2 c =
     let p = c .before .before in
     let s = entry (table-tested p) in
     let holds = c .before .if2 .taken in
-    refused-as _ (c .refuse2 .ensures) (later p _ (place-before-begin (s .args .thread) (s .args .op) (found s) _ (place-rows p) holds) holds)
+    refused-as _ (c .refuse2 .ensures) (later p _ (place-before-begin (s .args .via) (s .args .thread) (s .args .op) (found s) _ (place-rows p) holds) holds)
 
 element-copy-out-own : tie.Need-element-copy-out-own
 element-copy-out-own c =
     let p = c .before in
-    let t = entry (table-tested p) .args .t1 in
+    let t = entry (table-tested p) .args .t2 in
     omega (arith, table-few t _ (table-tested p .table-refusal .ensures) (p .before .if1 .left), place-below t _ _ _ (place-rows p) (c .if2 .left))
 
 -- a row on the thread or its operation refuses
@@ -89,25 +109,23 @@ returns-3 c =
     let p = place-tested b in
     let s = entry (table-tested p) in
     refused-as _ (c .refuse3 .ensures)
-    (later p _ (begin-after-place (s .args .thread) (s .args .op) (found s) _ _ (place-rows p) (b .before .before .if2 .left) (begin-rows b)) (c .before .if3 .taken))
+    (later p _ (begin-after-place (s .args .via) (s .args .thread) (s .args .op) (found s) _ _ (place-rows p) (b .before .before .if2 .left) (begin-rows b)) (c .before .if3 .taken))
 
+-- so the core may run, as through the main entry
 begin-requires : tie.Need-begin-requires
 begin-requires c κs =
-    let b = c .before .before in
-    let p = place-tested b in
-    let s = entry (table-tested p) in
-    let t = s .args .t1 in
-    let none = b .before .before .if2 .left in
-    begin-number (found s) (table-formed t _ (table-tested p .table-refusal .ensures) (p .before .if1 .left)) (s .args .thread)
-    (place-below t _ _ _ (place-rows p) none) (place-store t _ _ _ (place-rows p) none) (s .args .op)
-    ∙ sym (begin-rows b) ∙ c .before .if3 .left
+    let s = start (c .before) in
+    main-takes (s .args .via) (s .args .thread) (s .args .op) (found s) (accepted (c .before))
 
--- no row holds: what the core promises is promised
+-- what it promises is promised
 returns-4 : tie.Need-returns-4
-returns-4 c = search needs
+returns-4 c =
+    let q = c .before .before .before .before in
+    let s = start q in
+    promised-via (s .args .via) (s .args .thread) (s .args .op) (found s) (accepted q) _ _ (c .before .before .begin .ensures)
 
-pub begin-spec : {M : Type 1} → statement M
-begin-spec =
+pub begin-via-spec : {M : Type 1} → statement M
+begin-via-spec =
     tie.close
     (tie.spec
     (λ c κs. search needs)
