@@ -13,6 +13,7 @@ use Rattle.model.specs.Calls.{beginVia, begin, sparkBegin, State, acceptedReply
 use Rattle.model.specs.Refusals.{firstRefusal, moreWords, tooManyWords, tableRows, argumentRows, beginRows, laterRows, rowsOf, refusal}
 use Rattle.model.specs.Promise.{answer, next, Promise, EitherEntry}
 use Rattle.model.proofs.Laws.{by}
+use Rattle.model.proofs.Answers.{said-settles}
 use Rattle.laws.proofs.Refusals.{spark-words}
 use Rattle.laws.proofs.Calls.{accepted-next, accepted-answer}
 
@@ -43,6 +44,12 @@ module _ (x : ℕ) (o : Operation) (s : State) (few : o .send .present ≡ true 
 -- "a begin of at most 3 words returns and leaves the same through either"
 pub either-entry : EitherEntry
 either-entry x o s few = (same-answer x o s few, same-next x o s few)
+
+-- so any two calls that keep their promises
+pub calls-alike : (x : ℕ) (o : Operation) (s : State) → (o .send .present ≡ true → o .send .count ≤ sparkLimit)
+    → (a b : Answer) (after later : State) → Promise (sparkBegin x o) s a after → Promise (begin x o) s b later → (a ≡ b) × (after ≡ later)
+calls-alike x o s few a b after later spark main =
+    (said-settles a b (spark .answers ∙ same-answer x o s few ∙ sym (main .answers)), spark .leaves ∙ same-next x o s few ∙ sym (main .leaves))
 
 -- ---- a begin that is not refused, by its entry
 module _ (via : EntryPoint) (x : ℕ) (o : Operation) (s : State) (e : refusal (beginVia via x o) s ≡ 0) where

@@ -81,7 +81,7 @@ entered no-send-part = (refl, refl)
 entered neither-part = (refl, refl)
 
 -- ---- "Both entries share the one table"
--- 2 sends three words through the spark entry, four being refused, to 1, which began through the main one, and receives eight of 0, which began through the main one: "8 still holds, also for messages sent to the spark thread"
+-- through the spark entry 2 is refused four words and sends three to 1; then 0 sends it eight through the main one: "8 still holds, also for messages sent to the spark thread"
 unfoldable pub bothEntries : List Call
 bothEntries =
     receiving 1 (openFor 15) ∷ sparkBegin 2 (sendTo 1 (replicate 4 5) 15 (openFor 15)) ∷ sparkBegin 2 (sendTo 1 (replicate 3 5) 15 (openFor 15)) ∷ steps 7 2

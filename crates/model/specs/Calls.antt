@@ -50,7 +50,7 @@ ticked h = withLeft (cond (h .flags .ipc) (fall (h .left)) (h .left)) h
 unfoldable pub tickTable : Table → Table
 tickTable t = editBelow (t .n) ticked t
 
--- ---- the calls of a trace, with their arguments; document 02, #107: "Both entries share the one table"
+-- ---- the calls of a trace, with their arguments; document 02, #107: a begin is through one of two entries, and "Both entries share the one table"
 pub data Call : Type 0 where
   beginVia : EntryPoint → ℕ → Operation → Call
   step : ℕ → Call

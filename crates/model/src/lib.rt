@@ -37,7 +37,7 @@ pub struct Operation {
     pub receive: Receive,
 }
 
-// The entry by which an operation begins: the main one, or the one for messages of few words.
+// The entry through which an operation begins: the main one, or the spark entry, which takes at most three words.
 pub enum EntryPoint {
     Main,
     Spark,

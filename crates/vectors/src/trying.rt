@@ -80,13 +80,17 @@ fn table_of_three(copying: bool) -> Table {
     checked.table
 }
 
-// A begin of thread 0 on a table of three.
+// A begin of thread 0 on a table of three, through the main entry, and through the spark entry.
 fn try_begin(case: &[u8; 10]) {
     let mut store = [0u32; 24];
     let table = table_of_three(cases::number(case, 0) == 1);
     let after = engine::begin(table, 0, cases::operation(case), &mut store);
     let answer = after.answer;
     print_case(case, answer);
+    let spark = engine::spark_begin(table, 0, cases::operation(case), &mut store);
+    let answer = spark.answer;
+    print(b", spark ");
+    print_answer(answer);
     print(b"\n");
 }
 
