@@ -64,7 +64,7 @@ fn begin_via(
     core::begin(table, thread, op, store)
 }
 
-// A thread begins an operation.
+// A thread begins an operation, through the main entry.
 pub fn begin(table: Table, thread: u8, op: Operation, store: &mut [u32]) -> Returned
     ensures { λ r. ⌜ Promise (Call.beginVia Main thread op) (state table (now (store .entry))) (r .answer) (state (r .table) (now (store .exit))) ⌝ }
 {

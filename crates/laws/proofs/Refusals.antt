@@ -21,6 +21,7 @@ use Rattle.model.specs.Locks.{lockFree}
 use Rattle.model.specs.WellFormed.{sizeInRange, inPhase, sendInRange, receiveInRange, wellFormed}
 use Rattle.model.specs.Calls.{Call, beginVia, sparkBegin, step, cancel, tick, State}
 use Rattle.model.specs.Refusals.{firstRefusal, badSize, notWellFormed, noThread, badLength, lockOwned, notIdle, neitherPart, withItself, noPartner, moreWords, tooManyWords, badTime, rowsOf, refusal, makeRefusal, outcomeRefusal, tableRows, argumentRows, beginRows, laterRows}
+use Rattle.model.specs.Promise.{FewWords}
 use Rattle.model.proofs.Laws.{implies-made, _and_, all-of-made}
 use Rattle.model.proofs.Numbers.{size-read, size-made}
 use Rattle.laws.proofs.Rows.{numbered, NoneHolds, none-holds}
@@ -138,7 +139,7 @@ accepted-begin via x o s e =
     }
 
 -- through the spark entry also for at most three words
-pub spark-words : (x : ℕ) (o : Operation) (s : State) → refusal (sparkBegin x o) s ≡ 0 → o .send .present ≡ true → o .send .count ≤ sparkLimit
+pub spark-words : (x : ℕ) (o : Operation) (s : State) → refusal (sparkBegin x o) s ≡ 0 → FewWords o
 unfolding rowsOf tableRows argumentRows beginRows laterRows tooManyWords
 spark-words x o s e =
     let (size, (formed, (below, (store, (free, (inIdle, (part, (itself, (partner, (words, later)))))))))) = accepted-rows (sparkBegin x o) s e in

@@ -14,7 +14,7 @@ pub mod Printed
 pub mod Answered
 pub mod Searched
 pub mod Limits
-pub mod Entries
+pub mod EntryPoints
 pub mod Replays
 pub mod Making
 pub mod Free

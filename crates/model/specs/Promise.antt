@@ -37,11 +37,13 @@ pub record Promise (c : Call) (before : State) (a : Answer) (after : State) : Ty
   pub answers : said a ≡ answer c before
   pub leaves : after ≡ next c before
 
--- document 02, #107: "a begin of at most 3 words returns and leaves the same through either"; only a send part has words
-abbrev pub EitherEntry : Type 0
-EitherEntry =
-    (x : ℕ) (o : Operation) (s : State) → (o .send .present ≡ true → o .send .count ≤ sparkLimit)
-    → (answer (sparkBegin x o) s ≡ answer (begin x o) s) × (next (sparkBegin x o) s ≡ next (begin x o) s)
+-- document 02, #107: "at most 3 words"; only a send part has words
+abbrev pub FewWords : Operation → Type 0
+FewWords o = o .send .present ≡ true → o .send .count ≤ sparkLimit
+
+-- "a begin of at most 3 words returns and leaves the same through either"
+abbrev pub SameThroughEither : Type 0
+SameThroughEither = (x : ℕ) (o : Operation) (s : State) → FewWords o → (answer (sparkBegin x o) s ≡ answer (begin x o) s) × (next (sparkBegin x o) s ≡ next (begin x o) s)
 
 -- ---- making a table
 -- what making a table answers

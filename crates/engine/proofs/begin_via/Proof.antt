@@ -11,7 +11,7 @@ use Rattle.model.specs.Promise.{state, Promise}
 use Rattle.model.specs.Refusals.{firstRefusal, argumentRows, beginRows, laterRows, refusal}
 use Rattle.model.specs.Threads.{at}
 use Rattle.laws.proofs.Groups.{table-formed, table-few, place-below, place-store, place-before-begin, begin-after-place}
-use Rattle.laws.proofs.Entries.{main-takes, promised-via}
+use Rattle.laws.proofs.EntryPoints.{main-takes, promised-via}
 use Rattle.core.proofs.Kept.{begin-number}
 use Rattle.engine.proofs.Refused.{refused-as, table-refuses, later-refuses}
 use Rattle.engine.proofs.begin_via.Statement.{statement}

@@ -11,21 +11,21 @@ use Rattle.model.specs.declared.Answer.{Answer}
 use Rattle.model.specs.Operations.{wordLimit, sparkLimit}
 use Rattle.model.specs.Calls.{beginVia, begin, sparkBegin, State, acceptedReply, acceptedState}
 use Rattle.model.specs.Refusals.{firstRefusal, moreWords, tooManyWords, tableRows, argumentRows, beginRows, laterRows, rowsOf, refusal}
-use Rattle.model.specs.Promise.{answer, next, Promise, EitherEntry}
+use Rattle.model.specs.Promise.{answer, next, Promise, FewWords, SameThroughEither}
 use Rattle.model.proofs.Laws.{by}
 use Rattle.model.proofs.Answers.{said-settles}
 use Rattle.laws.proofs.Refusals.{spark-words}
 use Rattle.laws.proofs.Calls.{accepted-next, accepted-answer}
 
 -- so few words are within every limit that is not below three
-few-words : (limit : ℕ) (o : Operation) → sparkLimit ≤ limit → (o .send .present ≡ true → o .send .count ≤ sparkLimit) → moreWords limit o ≡ false
+few-words : (limit : ℕ) (o : Operation) → sparkLimit ≤ limit → FewWords o → moreWords limit o ≡ false
 unfolding moreWords
 few-words limit o l few = by (o .send .present)
     (λ i. rw i (le-ltb limit (o .send .count) (omega (arith, few i))))
     (λ i. rw i refl)
 
 -- ---- a begin of few words
-module _ (x : ℕ) (o : Operation) (s : State) (few : o .send .present ≡ true → o .send .count ≤ sparkLimit) where
+module _ (x : ℕ) (o : Operation) (s : State) (few : FewWords o) where
   -- is refused alike
   same-refusal : refusal (sparkBegin x o) s ≡ refusal (begin x o) s
   unfolding refusal rowsOf tableRows argumentRows laterRows beginRows tooManyWords firstRefusal
@@ -42,12 +42,12 @@ module _ (x : ℕ) (o : Operation) (s : State) (few : o .send .present ≡ true 
   same-next = rw same-refusal refl
 
 -- "a begin of at most 3 words returns and leaves the same through either"
-pub either-entry : EitherEntry
-either-entry x o s few = (same-answer x o s few, same-next x o s few)
+pub same-through-either : SameThroughEither
+same-through-either x o s few = (same-answer x o s few, same-next x o s few)
 
 -- so any two calls that keep their promises
-pub calls-alike : (x : ℕ) (o : Operation) (s : State) → (o .send .present ≡ true → o .send .count ≤ sparkLimit)
-    → (a b : Answer) (after later : State) → Promise (sparkBegin x o) s a after → Promise (begin x o) s b later → (a ≡ b) × (after ≡ later)
+pub calls-alike : (x : ℕ) (o : Operation) (s : State) → FewWords o → (a b : Answer) (after later : State)
+    → Promise (sparkBegin x o) s a after → Promise (begin x o) s b later → (a ≡ b) × (after ≡ later)
 calls-alike x o s few a b after later spark main =
     (said-settles a b (spark .answers ∙ same-answer x o s few ∙ sym (main .answers)), spark .leaves ∙ same-next x o s few ∙ sym (main .leaves))
 

@@ -18,18 +18,18 @@ use Rattle.model.proofs.Answered.{Shown, showing, receiving}
 use Rattle.model.proofs.Limits.{afterLimits}
 
 -- an operation, and by which number the main and the spark entry refuse it, or 0
-pub record EntryRow : Type 0 where
+pub record BeginRow : Type 0 where
   pub op : Operation
   pub main : ℕ
   pub spark : ℕ
 
 -- ---- short forms that the rows are written in
 -- so many words to thread 1, without end, and what is returned
-abbrev words : ℕ → ℕ → ℕ → EntryRow
+abbrev words : ℕ → ℕ → ℕ → BeginRow
 words count main spark = record { op = sendTo 1 (replicate count 1) 15 Absent; main = main; spark = spark }
 
 -- four words to a target with a time code, then a receive part, and what is returned
-abbrev four : ℕ → ℕ → Receive → ℕ → ℕ → EntryRow
+abbrev four : ℕ → ℕ → Receive → ℕ → ℕ → BeginRow
 four target time receive main spark = record { op = sendTo target (replicate 4 1) time receive; main = main; spark = spark }
 
 -- an operation without a send part, though nine words are counted there
@@ -43,7 +43,7 @@ pub data Name : Type 0 where
   words-before-time time-of-three-words itself-before-words partner-before-words target-beyond no-send-part neither-part : Name
 
 -- each operation, and what is returned
-unfoldable pub row : Name → EntryRow
+unfoldable pub row : Name → BeginRow
 -- "Begins through that entry allow at most 3 words; through the main entry 8 still holds"
 row no-word = words 0 0 0
 row three-words = words 3 0 0
@@ -100,6 +100,6 @@ unfolding afterLimits showing bothEntries bothShown
 shared-table = (refl, refl)
 
 -- opens what the rows of the next file are worked out from, once those of this file hold
-unfoldable pub afterEntries : ℕ
+unfoldable pub afterEntryPoints : ℕ
 unfolding afterLimits
-afterEntries = let rows = entered in let both = shared-table in 0
+afterEntryPoints = let rows = entered in let both = shared-table in 0
