@@ -62,12 +62,12 @@ fn send_in_range(n: u8, send: SendPart) -> bool
     !send.present | ((send.target < n) & (send.count <= WORD_LIMIT) & (send.time <= LAST_TIME_CODE))
 }
 
-// The numbers of a receive part that is there are in range.
+// The numbers of a receive part that is there are in range, and it is not closed on nobody.
 fn receive_in_range(n: u8, receive: Receive) -> bool
     ensures { λ r. ⌜ r ≡ receiveInRange n receive ⌝ }
 {
     let timed = !threads::has_receive(receive) | (threads::receive_time(receive) <= LAST_TIME_CODE);
-    timed & !threads::closed_beyond(n, receive)
+    timed & !threads::closed_beyond(n, receive) & !threads::is_empty(receive)
 }
 
 // The numbers of an operation that runs, and left, are in range; thread x is neither its target nor its partner.

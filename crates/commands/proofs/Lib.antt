@@ -1,3 +1,4 @@
+pub mod Partners
 pub mod Reading
 pub mod Returned
 pub mod Spelling

@@ -6,9 +6,10 @@ use Prim.Native.Nat.{ℕ, zero, suc, _+_, _-_, _*_, _≤_, _<_}
 use native.Mathlib.Numerals.{add-one}
 use native.Mathlib.Omega.{arith}
 use lib.ListN.{length, take, drop, getD, set, length-set, drop-of-length-le}
-use lib.Seq.{take-suc-set, drop-cons}
+use lib.Seq.{take-take, take-suc-set, drop-cons}
 use Rattle.model.specs.Lists.{bit}
 use Rattle.model.specs.Refusals.{unless}
+use Rattle.laws.proofs.Joined.{drop-of-take}
 use Rattle.language.specs.Words.{words, value}
 use Rattle.language.specs.Grammar.{takesSign}
 use Rattle.language.specs.Commands.{missing, tooMuch, isNegative, digitsOf, wrongNumber, kept, Progress, stopped, reached, readNumber, readNumbers, readMore}
@@ -64,6 +65,10 @@ advanced-as e a = record { stands = a .stands; few = a .few; means = a .means �
 -- nothing stands between a place and itself
 pub between-none : (line : List ℕ) (start end : ℕ) → start ≡ end → between start end line ≡ []
 between-none line start end e = let none : end - start ≡ 0 = omega arith in rw none
+
+-- what stands between two places of a line's front stands there in the line
+pub between-front : (line : List ℕ) (front start end : ℕ) → end ≤ front → between start end (take front line) ≡ between start end line
+between-front line front start end le = rw (drop-of-take start front line) (take-take (end - start) (front - start) (drop start line) (omega arith))
 
 -- ---- one word
 module _ (line : List ℕ) (letter start end count : ℕ) (place : Placed line start end) (amount : Amount) (m : Measured letter (digitsOf letter (between start end line)) amount) where

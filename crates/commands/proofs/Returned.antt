@@ -7,12 +7,11 @@ use Prim.Native.Char.{code}
 use native.Mathlib.Omega.{arith}
 use lib.Dec.{eqb}
 use lib.ListN.{length, take, drop, getD}
-use lib.Seq.{take-take, getD-take, getD-drop, length-take-le}
+use lib.Seq.{getD-take, getD-drop, length-take-le}
 use borrow.Author.Tests.{eq-eqb, ne-eqb, le-leb, lt-leb}
 use Rattle.model.specs.declared.Operation.{Operation}
 use Rattle.model.specs.Threads.{noOperation}
 use Rattle.model.specs.Refusals.{unless}
-use Rattle.laws.proofs.Joined.{drop-of-take}
 use Rattle.language.specs.Words.{withoutReturn, words}
 use Rattle.language.specs.Grammar.{grammar, rows, firstField, setRow, findRow, numberLetters, restLetter, mostMore, mostNumbers}
 use Rattle.language.specs.Commands.{noCommand, noField, tooLong, Progress, reached, readNumbers, readParts, Command, skipped, wrong, asked, withParts, complete, readRest, readRow, readField, fromWords, lineLimit, commandOf}
@@ -22,7 +21,7 @@ use Rattle.commands.specs.declared.Cursor.{Cursor}
 use Rattle.commands.specs.declared.Parts.{Parts}
 use Rattle.commands.specs.declared.Parsed.{Parsed}
 use Rattle.commands.specs.Standing.{progress, spelling, nothing, meant, Placed, Stands, Advanced, Parses, Letters, rowRoom, readOn, failing, asking, fromFirst}
-use Rattle.commands.proofs.Reading.{unless-none, unless-some, progress-stopped, progress-reached, between-none, reached-end, reached-word}
+use Rattle.commands.proofs.Reading.{unless-none, unless-some, progress-stopped, progress-reached, between-none, between-front, reached-end, reached-word}
 
 -- ---- commands
 -- what is returned stands for what is equal to what it stands for
@@ -178,10 +177,6 @@ module _ (line numbers : List ℕ) (start end : ℕ) (f : Found line 0 start end
     line-first h = rw (found-word line 0 start end f d, ne-eqb (getD (between start end line) 0 0) (code "#") (λ e. h (sym first-byte ∙ e)))
 
 -- ---- the whole line
--- what stands between two places of its front stands there in the line
-between-front : (line : List ℕ) (front start end : ℕ) → end ≤ front → between start end (take front line) ≡ between start end line
-between-front line front start end le = rw (drop-of-take start front line) (take-take (end - start) (front - start) (drop start line) (omega arith))
-
 module _ (line numbers : List ℕ) (end : ℕ) (s : Shortened line end) where
   -- as many bytes as are left of it
   front-length : length (withoutReturn line) ≡ end

@@ -20,13 +20,13 @@ use Rattle.model.proofs.Laws.{by}
 use Rattle.laws.proofs.Lists.{zero-or-not}
 use Rattle.language.specs.Words.{words, sameWord, isNumber, value}
 use Rattle.language.specs.Grammar.{largest, takesSign}
-use Rattle.language.specs.Commands.{noPart, tooMuch, isNegative, digitsOf, wrongDigits, wrongNumber, kept, Progress, stopped, reached, readNumber, readNumbers, Spelled, misspelled, spelled, startsWith, closed, readWait, readReceive, withWord, readWords, emptySend, readSend, readParts}
+use Rattle.language.specs.Commands.{noPart, tooMuch, isNegative, digitsOf, wrongDigits, wrongNumber, kept, Progress, stopped, reached, readNumber, readNumbers, Spelled, misspelled, spelled, startsWith, closed, readOpen, readClosed, readWait, readReceive, withWord, readWords, emptySend, readSend, readParts}
 use Rattle.scanning.specs.Scanned.{between, Found}
 use Rattle.scanning.proofs.Runs.{found-none, found-word}
 use Rattle.commands.specs.declared.Cursor.{Cursor}
 use Rattle.commands.specs.declared.Parts.{Parts}
 use Rattle.letters.specs.declared.Amount.{Amount}
-use Rattle.commands.specs.Standing.{progress, spelling, Placed, Stands, Advanced, Spells, misspelling, spellingOut, startingAt, readOpen, readClosed}
+use Rattle.commands.specs.Standing.{progress, spelling, Placed, Stands, Advanced, Spells, misspelling, spellingOut, startingAt}
 use Rattle.letters.specs.Measured.{Measured}
 use Rattle.commands.proofs.Reading.{unless-none, unless-some, progress-stopped, progress-reached, between-none}
 
@@ -81,13 +81,30 @@ closed-as line after last send receive f p e same = zero-or-not (last .reason)
     (λ g z. let d : last .reason ≡ 0 → ⊥ = λ n. omega arith in
     ap (closed send (λ _. receive)) (progress-stopped line [] last d) ∙ ap (closed send f) (sym (progress-stopped line after last d) ∙ e))
 
--- ---- numbers that are bytes
+-- ---- numbers that were read
 -- a number that is not refused is at most the largest
-not-above : (letter : ℕ) (digits : List ℕ) → wrongDigits letter digits ≡ 0 → value digits ≤ largest letter
+pub not-above : (letter : ℕ) (digits : List ℕ) → wrongDigits letter digits ≡ 0 → value digits ≤ largest letter
 unfolding wrongDigits firstRefusal
 not-above letter digits e = by (isNumber digits)
     (λ n. by (ltb (largest letter) (value digits)) (λ l. let clash : _≡_ {A = ℕ} 6 0 = rw (n, l) at e in absurd (omega arith)) (λ l. ltb-false _ _ l))
     (λ n. let clash : _≡_ {A = ℕ} 5 0 = rw n at e in absurd (omega arith))
+
+-- a list with one number more
+pub record NumberMore (letter : ℕ) (before after : List ℕ) : Type 0 where
+  pub number : ℕ
+  pub small : number ≤ largest letter
+  pub is : after ≡ before ++ (number ∷ [])
+
+-- a number whose letter has no sign, where it is read
+pub number-more : (letter : ℕ) → takesSign letter ≡ false → (before after : List ℕ) (left later : List (List ℕ)) → readNumber letter (reached before left) ≡ reached after later
+    → NumberMore letter before after
+unfolding readNumber wrongNumber kept
+number-more letter unsigned before after [] later e = let clash : _≡_ {A = ℕ} 0 1 = cc in absurd (omega arith)
+number-more letter unsigned before after (word ∷ left) later e = zero-or-not (wrongNumber letter word)
+    (λ z. let read : reached (before ++ (value (digitsOf letter word) ∷ [])) left ≡ reached after later = rw unsigned at (sym (unless-none _ _ _ z) ∙ e) in
+    record { number = value (digitsOf letter word); small = not-above letter (digitsOf letter word) z; is = cc })
+    (λ g z. let stop : stopped (wrongNumber letter word) word ≡ reached after later = sym (unless-some _ _ _ (λ n. omega arith)) ∙ e in
+    let clash : _≡_ {A = ℕ} 0 1 = cc in absurd (omega arith))
 
 -- a list with one byte more
 pub record ByteMore (before after : List ℕ) : Type 0 where
@@ -97,14 +114,10 @@ pub record ByteMore (before after : List ℕ) : Type 0 where
 
 -- a number with the letter of a byte, where it is read
 byte-more : (before after : List ℕ) (left later : List (List ℕ)) → readNumber (code "b") (reached before left) ≡ reached after later → ByteMore before after
-unfolding readNumber wrongNumber kept takesSign largest
-byte-more before after [] later e = let clash : _≡_ {A = ℕ} 0 1 = cc in absurd (omega arith)
-byte-more before after (word ∷ left) later e = zero-or-not (wrongNumber (code "b") word)
-    (λ z. let read : reached (before ++ (value (digitsOf (code "b") word) ∷ [])) left ≡ reached after later = sym (unless-none _ _ _ z) ∙ e in
-    let fits : value (digitsOf (code "b") word) ≤ 255 = not-above (code "b") (digitsOf (code "b") word) z in
-    record { byte = value (digitsOf (code "b") word); small = omega arith; is = cc })
-    (λ g z. let stop : stopped (wrongNumber (code "b") word) word ≡ reached after later = sym (unless-some _ _ _ (λ n. omega arith)) ∙ e in
-    let clash : _≡_ {A = ℕ} 0 1 = cc in absurd (omega arith))
+unfolding takesSign largest
+byte-more before after left later e =
+    let m = number-more (code "b") refl before after left later e in
+    record { byte = m .number; small = omega (arith, m .small); is = m .is }
 
 -- one such number
 pub one-byte : (numbers : List ℕ) (left later : List (List ℕ)) → readNumbers (ascii "b") (reached [] left) ≡ reached numbers later → ByteMore [] numbers
@@ -172,13 +185,19 @@ pub stands-start : (line : List ℕ) (at : ℕ) → at ≤ length line → Stand
 stands-start line at le = record { word = record { ordered = omega arith; within = le }; behind = le }
 
 module _ (line before after : List ℕ) (at most : ℕ) (last : Cursor) (send : SendPart) where
+  -- only a time code is read
+  pub time-read : (wait : ℕ → Receive) → Advanced line after (readNumbers (ascii "b") (progress line before (startingAt at))) most last
+      → closed send (λ _. wait (getD after 0 0 % 256)) (progress line [] last) ≡ closed send (λ numbers. wait (getD numbers 0 0)) (readNumbers (ascii "b") (reached [] (words (drop at line))))
+  unfolding progress unless
+  time-read wait a = closed-as line after last send _ _ _ (a .means) λ left e.
+      let b = one-byte _ _ left e in
+      ap wait (low-same after (b .byte ∷ []) (last .count) 0 (b .is) (omega arith) (b .small))
+
   -- behind `receive any`
   pub open-read : Advanced line after (readNumbers (ascii "b") (progress line before (startingAt at))) most last
       → closed send (λ _. Open (record { time = getD after 0 0 % 256; partner = 0 })) (progress line [] last) ≡ readOpen send (words (drop at line))
-  unfolding readOpen progress unless
-  open-read a = closed-as line after last send _ _ _ (a .means) λ left e.
-      let b = one-byte _ _ left e in
-      rw (low-same after (b .byte ∷ []) (last .count) 0 (b .is) (omega arith) (b .small))
+  unfolding readOpen
+  open-read a = time-read (λ time. Open (record { time = time; partner = 0 })) a
 
   -- behind `receive`
   pub closed-read : Advanced line after (readNumbers (ascii "bb") (progress line before (startingAt at))) most last
@@ -187,17 +206,6 @@ module _ (line before after : List ℕ) (at most : ℕ) (last : Cursor) (send : 
   closed-read a = closed-as line after last send _ _ _ (a .means) λ left e.
       let b = two-bytes _ _ left e in
       rw (low-first after (last .count) b, low-second after (last .count) b)
-
-module _ (send : SendPart) (left : List (List ℕ)) where
-  -- the word `any`
-  pub wait-any : (behind : List (List ℕ)) → startsWith (ascii "any") left ≡ true → drop 1 left ≡ behind → readOpen send behind ≡ readWait send left
-  unfolding readWait readOpen
-  wait-any behind e d = rw (e, d)
-
-  -- another
-  pub wait-other : startsWith (ascii "any") left ≡ false → readClosed send left ≡ readWait send left
-  unfolding readWait readClosed
-  wait-other e = rw e
 
 module _ (line : List ℕ) (send : SendPart) (at start end : ℕ) (f : Found line at start end) where
   -- no word is left

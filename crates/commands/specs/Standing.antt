@@ -4,17 +4,15 @@ use mathlib.Core.Bool.{cond}
 use mathlib.Core.List.{List, [], _++_}
 use Prim.Native.Nat.{ℕ, _+_, _≤_}
 use lib.Dec.{eqb}
-use lib.ListN.{length, take, drop, getD}
+use lib.ListN.{length, take, drop}
 use Rattle.model.specs.declared.Operation.{Operation}
 use Rattle.model.specs.declared.SendPart.{SendPart}
 use Rattle.model.specs.declared.Receive.{Receive}
-use Rattle.model.specs.declared.Receive.the-variants.{Open, Closed}
 use Rattle.model.specs.Threads.{noOperation}
 use Rattle.model.specs.Refusals.{unless}
-use Rattle.model.specs.Bondtrace.{ascii}
 use Rattle.language.specs.Words.{words}
 use Rattle.language.specs.Grammar.{grammar, mostNumbers, firstField, setRow, findRow, numberLetters}
-use Rattle.language.specs.Commands.{wrongNumber, kept, Progress, stopped, reached, readNumbers, readMore, Spelled, misspelled, spelled, closed, Command, skipped, wrong, asked, readRow, readField, noCommand}
+use Rattle.language.specs.Commands.{wrongNumber, kept, Progress, stopped, reached, readNumbers, readMore, Spelled, misspelled, spelled, Command, skipped, wrong, asked, readRow, readField, noCommand}
 use Rattle.scanning.specs.Scanned.{between}
 use Rattle.commands.specs.declared.Parsed.{Parsed}
 use Rattle.commands.specs.declared.Cursor.{Cursor}
@@ -120,14 +118,6 @@ misspelling reason start end = record { reason = reason; start = start; end = en
 -- an operation by its parts
 abbrev pub spellingOut : SendPart → Receive → Parts
 spellingOut send receive = record { reason = 0; start = 0; end = 0; op = record { send = send; receive = receive } }
-
--- "`receive any CODE`", behind `any`
-unfoldable pub readOpen : SendPart → List (List ℕ) → Spelled
-readOpen send left = closed send (λ numbers. Open (record { time = getD numbers 0 0; partner = 0 })) (readNumbers (ascii "b") (reached [] left))
-
--- "`receive P CODE`", behind `receive`
-unfoldable pub readClosed : SendPart → List (List ℕ) → Spelled
-readClosed send left = closed send (λ numbers. Closed (record { time = getD numbers 1 0; partner = getD numbers 0 0 })) (readNumbers (ascii "bb") (reached [] left))
 
 -- the cursor at a place where no number is read yet
 abbrev pub startingAt : ℕ → Cursor

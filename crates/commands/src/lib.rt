@@ -11,6 +11,7 @@ ghost use Rattle.commands.specs.Standing.{progress, spelling, Stands, Ad
 
 mod cursors;
 mod operations;
+mod receives;
 mod rows;
 
 use cursors::read_more;

@@ -1,23 +1,21 @@
 // The operation that the rest of a line spells: a send part or none, then a receive part or none.
 ghost use mathlib.Core.Path.{_≡_};
 ghost use mathlib.Core.List.{[]};
-ghost use Prim.Native.Nat.{suc, _%_, _≤_, min};
+ghost use Prim.Native.Nat.{suc, _≤_, min};
 ghost use lib.ListN.{length, drop, set};
 ghost use Rattle.model.specs.Bondtrace.{ascii};
 ghost use Rattle.language.specs.Words.{words};
-ghost use Rattle.language.specs.Commands.{closed, readNumbers, reached, readWait, readReceive, withWord, readWords, readSend, readParts};
-ghost use Rattle.commands.specs.Standing.{progress, Stands, Spells, misspelling, spellingOut, startingAt, readOpen, readClosed};
-use crate::Cursor;
-use crate::NO_PART;
+ghost use Rattle.language.specs.Commands.{readNumbers, reached, withWord, readWords, readSend, readParts};
+ghost use Rattle.commands.specs.Standing.{Spells};
 use crate::Parts;
-use crate::TOO_MUCH;
 use crate::cursors::read_numbers;
+use crate::receives::low_byte;
+use crate::receives::misspelled;
+use crate::receives::read_receive;
+use crate::receives::starting_at;
 use letters::WORD;
 use letters::amount_of;
-use model::Operation;
-use model::Receive;
 use model::SendPart;
-use model::Wait;
 use scanning::is_word;
 use scanning::next_word;
 use threads::no_operation;
@@ -26,131 +24,6 @@ use threads::no_operation;
 const WORDS: u8 = 8;
 
 const COUNTED: u8 = 255;
-
-// Words that spell no operation.
-fn misspelled(reason: u8, start: usize, end: usize) -> Parts
-    ensures { λ r. ⌜ r ≡ misspelling reason start end ⌝ }
-{
-    let op = no_operation();
-    Parts {
-        reason,
-        start,
-        end,
-        op,
-    }
-}
-
-// An operation.
-fn spelled(send: SendPart, receive: Receive) -> Parts
-    ensures { λ r. ⌜ r ≡ spellingOut send receive ⌝ }
-{
-    let op = Operation { send, receive };
-    Parts {
-        reason: 0,
-        start: 0,
-        end: 0,
-        op,
-    }
-}
-
-// An operation whose receive part is read, where nothing is left of the line.
-fn close(line: &[u8], cursor: Cursor, send: SendPart, receive: Receive) -> Parts
-    requires { ⌜ Stands (now line) cursor ⌝ }
-    ensures { λ r. ⌜ Spells (now (line .entry)) (closed send (λ _. receive) (progress (now (line .entry)) [] cursor)) r ⌝ }
-{
-    let reason = cursor.reason;
-    if reason != 0 {
-        return misspelled(reason, cursor.start, cursor.end);
-    }
-    let span = next_word(line, cursor.at);
-    let start = span.start;
-    let end = span.end;
-    if start == end {
-        return spelled(send, receive);
-    }
-    misspelled(TOO_MUCH, start, end)
-}
-
-// The cursor at a place where no number is read yet.
-fn starting_at(at: usize) -> Cursor
-    ensures { λ r. ⌜ r ≡ startingAt at ⌝ }
-{
-    Cursor {
-        reason: 0,
-        start: at,
-        end: at,
-        at,
-        count: 0,
-    }
-}
-
-// The low byte of a number.
-fn low_byte(n: u32) -> u8
-    ensures { λ r. ⌜ r ≡ n % 256 ⌝ }
-{
-    (n % 256) as u8
-}
-
-// Behind the words `receive any`: a time code.
-fn read_open(line: &[u8], at: usize, send: SendPart) -> Parts
-    requires { ⌜ at ≤ length (now line) ⌝ }
-    ensures { λ r. ⌜ Spells (now (line .entry)) (readOpen send (words (drop at (now (line .entry))))) r ⌝ }
-{
-    let mut numbers: [u32; 2] = [0; 2];
-    let from = starting_at(at);
-    let last = read_numbers(line, b"b", from, &mut numbers);
-    let wait = Wait {
-        time: low_byte(numbers[0]),
-        partner: 0,
-    };
-    close(line, last, send, Receive::Open(wait))
-}
-
-// Behind the word `receive`: a partner and a time code.
-fn read_closed(line: &[u8], at: usize, send: SendPart) -> Parts
-    requires { ⌜ at ≤ length (now line) ⌝ }
-    ensures { λ r. ⌜ Spells (now (line .entry)) (readClosed send (words (drop at (now (line .entry))))) r ⌝ }
-{
-    let mut numbers: [u32; 4] = [0; 4];
-    let from = starting_at(at);
-    let last = read_numbers(line, b"bb", from, &mut numbers);
-    let wait = Wait {
-        time: low_byte(numbers[1]),
-        partner: low_byte(numbers[0]),
-    };
-    close(line, last, send, Receive::Closed(wait))
-}
-
-// Behind the word `receive`.
-fn read_wait(line: &[u8], at: usize, send: SendPart) -> Parts
-    requires { ⌜ at ≤ length (now line) ⌝ }
-    ensures { λ r. ⌜ Spells (now (line .entry)) (readWait send (words (drop at (now (line .entry))))) r ⌝ }
-{
-    let span = next_word(line, at);
-    let start = span.start;
-    let end = span.end;
-    if is_word(&line[start..end], b"any") {
-        return read_open(line, end, send);
-    }
-    read_closed(line, at, send)
-}
-
-// A receive part or none.
-fn read_receive(line: &[u8], at: usize, send: SendPart) -> Parts
-    requires { ⌜ at ≤ length (now line) ⌝ }
-    ensures { λ r. ⌜ Spells (now (line .entry)) (readReceive send (words (drop at (now (line .entry))))) r ⌝ }
-{
-    let span = next_word(line, at);
-    let start = span.start;
-    let end = span.end;
-    if start == end {
-        return spelled(send, Receive::Absent);
-    }
-    if is_word(&line[start..end], b"receive") {
-        return read_wait(line, end, send);
-    }
-    misspelled(NO_PART, start, end)
-}
 
 // One word more is counted, up to 255.
 fn counted(count: u8) -> u8

@@ -30,12 +30,13 @@ fn same_send(a: SendPart, b: SendPart) -> bool {
         & same_words(v, w)
 }
 
-// A receive part as numbers: which part it is, its time code and its partner.
-fn receive_numbers(receive: Receive) -> [u8; 3] {
+// A receive part as numbers: which part it is, its time code, and its partner or its set.
+fn receive_numbers(receive: Receive) -> [u32; 3] {
     match receive {
         Receive::Absent => [0, 0, 0],
-        Receive::Open(w) => [1, w.time, w.partner],
-        Receive::Closed(w) => [2, w.time, w.partner],
+        Receive::Open(w) => [1, w.time as u32, w.partner as u32],
+        Receive::Closed(w) => [2, w.time as u32, w.partner as u32],
+        Receive::OneOf(time, set) => [3, time as u32, set],
     }
 }
 

@@ -5,7 +5,7 @@ use mathlib.Core.List.{List, [], _∷_, _++_}
 use Prim.Native.Nat.{ℕ, _+_}
 use Prim.Native.String.{String}
 use lib.ListN.{replicate}
-use Rattle.model.specs.declared.Receive.the-variants.{Absent, Open, Closed}
+use Rattle.model.specs.declared.Receive.the-variants.{Absent, Open, Closed, OneOf}
 use Rattle.model.specs.declared.Operation.{Operation}
 use Rattle.model.specs.declared.Receive.{Receive}
 use Rattle.model.specs.Threads.{noOperation}
@@ -37,6 +37,7 @@ pub data Name : Type 0 where
   empty comment blanks return leading steps step-and-more word-of-digits no-command prefix-of-one missing-one largest-byte above-a-byte a-tick ticks no-ticks ticks-again : Name
   nothing-begun an-open-wait a-call nine-words closed-wait neither-part too-much-behind flags not-a-flag code-below-zero sign-elsewhere only-a-sign field-missing no-field thread-missing : Name
   thread-past-the-array a-search searches-of-two a-spark spark-of-nobody : Name
+  a-set largest-set above-a-set set-of-a-list set-of-nothing some-partners same-partner-twice partner-not-below-32 partner-of-letters any-and-more nobody-between-commas nobody-behind-a-comma partners-and-more : Name
 
 -- the line and the command of each
 unfoldable pub row : Name → LineRow
@@ -89,6 +90,19 @@ row a-search = asks "search 31" 14 (31 ∷ [])
 row searches-of-two = refuses "search 0 1" tooMuch "1"
 row a-spark = record { line = "spark 2 receive any 15"; command = asked 15 (2 ∷ []) (receives (Open (record { time = 15; partner = 0 }))) }
 row spark-of-nobody = refuses "spark send 1 15" notNumber "send"
+row a-set = record { line = "begin 1 receive set 5 15"; command = asked 1 (1 ∷ []) (receives (OneOf 15 5)) }
+row largest-set = record { line = "begin 1 receive set 4294967295 255"; command = asked 1 (1 ∷ []) (receives (OneOf 255 4294967295)) }
+row above-a-set = refuses "begin 1 receive set 4294967296 15" tooLarge "4294967296"
+row set-of-a-list = refuses "begin 1 receive set 1,2 15" notNumber "1,2"
+row set-of-nothing = refuses "begin 1 receive set" missing ""
+row some-partners = record { line = "begin 1 receive 31,0,2 15"; command = asked 1 (1 ∷ []) (receives (OneOf 15 2147483653)) }
+row same-partner-twice = record { line = "begin 1 receive 3,3 15"; command = asked 1 (1 ∷ []) (receives (OneOf 15 8)) }
+row partner-not-below-32 = refuses "begin 1 receive 0,32 15" tooLarge "32"
+row partner-of-letters = refuses "begin 1 receive 0,x,32 15" notNumber "x"
+row any-and-more = refuses "begin 1 receive any,1 15" notNumber "any"
+row nobody-between-commas = refuses "begin 1 receive 1,,2 15" notNumber ""
+row nobody-behind-a-comma = refuses "begin 1 receive 1, 15" notNumber ""
+row partners-and-more = refuses "begin 1 receive 1,2 15 3" tooMuch "3"
 
 -- each line is the command that stands beside it
 pub lines-read : (n : Name) → commandOf (ascii (row n .line)) ≡ row n .command
@@ -130,6 +144,19 @@ lines-read a-search = refl
 lines-read searches-of-two = refl
 lines-read a-spark = refl
 lines-read spark-of-nobody = refl
+lines-read a-set = refl
+lines-read largest-set = refl
+lines-read above-a-set = refl
+lines-read set-of-a-list = refl
+lines-read set-of-nothing = refl
+lines-read some-partners = refl
+lines-read same-partner-twice = refl
+lines-read partner-not-below-32 = refl
+lines-read partner-of-letters = refl
+lines-read any-and-more = refl
+lines-read nobody-between-commas = refl
+lines-read nobody-behind-a-comma = refl
+lines-read partners-and-more = refl
 
 -- ---- lines that are too long to stand in a row
 -- "Words past the eighth are counted, to any number (300 words are refused 9 and do not wrap round), and not kept": the count stays at 255

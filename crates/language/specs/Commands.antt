@@ -1,19 +1,20 @@
 -- Which command a line is: the row of the grammar, the numbers, and the operation that its words spell; or why it is none.
 use mathlib.Core.Bool.{Bool, true, false, not, cond, _&&_}
 use mathlib.Core.List.{List, [], _∷_, _++_}
-use Prim.Native.Nat.{ℕ, zero, suc, _-_, min}
+use Prim.Native.Nat.{ℕ, zero, suc, _+_, _-_, _^_, min}
 use Prim.Native.Char.{code}
 use lib.Dec.{eqb, leb, ltb}
 use lib.ListN.{getD, set, length, replicate, drop}
 use Rattle.model.specs.declared.SendPart.{SendPart}
 use Rattle.model.specs.declared.Receive.{Receive}
-use Rattle.model.specs.declared.Receive.the-variants.{Absent, Open, Closed}
+use Rattle.model.specs.declared.Receive.the-variants.{Absent, Open, Closed, OneOf}
 use Rattle.model.specs.declared.Operation.{Operation}
 use Rattle.model.specs.Lists.{bit}
+use Rattle.model.specs.Operations.{member}
 use Rattle.model.specs.Threads.{noOperation}
 use Rattle.model.specs.Refusals.{Row, firstRefusal, unless}
 use Rattle.model.specs.Bondtrace.{ascii}
-use Rattle.language.specs.Words.{words, withoutReturn, sameWord, isNumber, value}
+use Rattle.language.specs.Words.{words, withoutReturn, sameWord, hasComma, pieces, isNumber, value}
 use Rattle.language.specs.Grammar.{rows, firstField, setRow, findRow, numberLetters, restLetter, largest, least, takesSign, mostMore}
 
 -- ---- reasons: why a line is no command
@@ -123,6 +124,16 @@ readMore letter zero numbers (word ∷ left) = stopped tooMuch word
 readMore letter (suc most) numbers (word ∷ left) =
     unless (wrongNumber letter word) (λ reason. stopped reason word) (readMore letter most (numbers ++ kept letter word) left)
 
+-- ---- sets
+-- a set with one member more
+unfoldable pub withMember : ℕ → ℕ → ℕ
+withMember set s = cond (member set s) set (set + 2 ^ s)
+
+-- "`receive P,Q,.. CODE` .. closed on several threads, each below 32": the threads put into a set one after the other
+unfoldable pub readMembers : ℕ → List (List ℕ) → List (List ℕ) → Progress
+readMembers set [] left = reached (set ∷ []) left
+readMembers set (piece ∷ more) left = unless (wrongNumber (code "t") piece) (λ reason. stopped reason piece) (readMembers (withMember set (value piece)) more left)
+
 -- ---- "PARTS: a send part `send T CODE WORD ..` or none, then a receive part `receive any CODE`, `receive P CODE` or none"
 -- the operation that words spell, or the reason and the word at which reading stopped
 pub data Spelled : Type 0 where
@@ -140,11 +151,29 @@ closed send receive (stopped reason word) = misspelled reason word
 closed send receive (reached numbers []) = spelled (record { send = send; receive = receive numbers })
 closed send receive (reached numbers (word ∷ left)) = misspelled tooMuch word
 
--- "`receive any CODE`, `receive P CODE`", behind the word `receive`
+-- "`receive any CODE`", behind `any`
+unfoldable pub readOpen : SendPart → List (List ℕ) → Spelled
+readOpen send left = closed send (λ numbers. Open (record { time = getD numbers 0 0; partner = 0 })) (readNumbers (ascii "b") (reached [] left))
+
+-- "`receive P CODE`", behind `receive`
+unfoldable pub readClosed : SendPart → List (List ℕ) → Spelled
+readClosed send left = closed send (λ numbers. Closed (record { time = getD numbers 1 0; partner = getD numbers 0 0 })) (readNumbers (ascii "bb") (reached [] left))
+
+-- "a receive closed on several threads .. or on the set with this number", behind the set
+unfoldable pub readOneOf : SendPart → Progress → Spelled
+readOneOf send set = closed send (λ numbers. OneOf (getD numbers 1 0) (getD numbers 0 0)) (readNumbers (ascii "b") set)
+
+-- "`receive P,Q,.. CODE`", behind `receive`; without a comma it is "`receive P CODE`"
+unfoldable pub readPartners : SendPart → List (List ℕ) → Spelled
+readPartners send [] = readClosed send []
+readPartners send (word ∷ left) = cond (hasComma word) (readOneOf send (readMembers 0 (pieces word) left)) (readClosed send (word ∷ left))
+
+-- what stands behind the word `receive`; "`receive set M CODE`" has the number of the set
 unfoldable pub readWait : SendPart → List (List ℕ) → Spelled
-readWait send left = cond (startsWith (ascii "any") left)
-    (closed send (λ numbers. Open (record { time = getD numbers 0 0; partner = 0 })) (readNumbers (ascii "b") (reached [] (drop 1 left))))
-    (closed send (λ numbers. Closed (record { time = getD numbers 1 0; partner = getD numbers 0 0 })) (readNumbers (ascii "bb") (reached [] left)))
+readWait send left =
+    cond (startsWith (ascii "any") left) (readOpen send (drop 1 left))
+    (cond (startsWith (ascii "set") left) (readOneOf send (readNumber (code "w") (reached [] (drop 1 left))))
+    (readPartners send left))
 
 -- a receive part or none
 unfoldable pub readReceive : SendPart → List (List ℕ) → Spelled

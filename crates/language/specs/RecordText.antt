@@ -7,11 +7,12 @@ use lib.Dec.{eqb, leb}
 use lib.ListN.{getD, replicate}
 use Rattle.model.specs.declared.SendPart.{SendPart}
 use Rattle.model.specs.declared.Receive.{Receive}
-use Rattle.model.specs.declared.Receive.the-variants.{Absent, Open, Closed}
+use Rattle.model.specs.declared.Receive.the-variants.{Absent, Open, Closed, OneOf}
 use Rattle.model.specs.declared.Operation.{Operation}
 use Rattle.model.specs.declared.Record.{Record}
 use Rattle.model.specs.Lists.{upTo}
-use Rattle.model.specs.RecordBytes.{tableKind, beginKind, stepKind, cancelKind, tickKind}
+use Rattle.model.specs.Operations.{namesSet}
+use Rattle.model.specs.RecordBytes.{tableKind, beginKind, stepKind, cancelKind, tickKind, setKind, isBegin}
 use Rattle.model.specs.Encoding.{lawfulRecord}
 use Rattle.model.specs.Bondtrace.{ascii, spaced}
 use Rattle.language.specs.Commands.{Command, skipped, wrong, asked}
@@ -25,18 +26,19 @@ sentWords send = upTo (send .count) (λ i. getD (send .words) i 0)
 unfoldable pub sendText : SendPart → List ℕ
 sendText send = cond (send .present) (ascii " send" ++ spaced (send .target ∷ send .time ∷ sentWords send)) []
 
--- "a receive part `receive any CODE`, `receive P CODE` or none"
+-- "a receive part `receive any CODE`, `receive P CODE` or none"; closed on a set, "`receive set M CODE`"
 unfoldable pub receiveText : Receive → List ℕ
 receiveText Absent = []
 receiveText (Open wait) = ascii " receive any" ++ spaced (wait .time ∷ [])
 receiveText (Closed wait) = ascii " receive" ++ spaced (wait .partner ∷ wait .time ∷ [])
+receiveText (OneOf time set) = ascii " receive set" ++ spaced (set ∷ time ∷ [])
 
 -- the line of a record
 unfoldable pub recordLine : Record → List ℕ
 recordLine r =
     let thread = spaced (r .thread ∷ []) in
     cond (eqb (r .kind) tableKind) (ascii "table" ++ thread)
-    (cond (eqb (r .kind) beginKind) (ascii "begin" ++ thread ++ sendText (r .op .send) ++ receiveText (r .op .receive))
+    (cond (isBegin (r .kind)) (ascii "begin" ++ thread ++ sendText (r .op .send) ++ receiveText (r .op .receive))
     (cond (eqb (r .kind) stepKind) (ascii "step" ++ thread)
     (cond (eqb (r .kind) cancelKind) (ascii "cancel" ++ thread) (ascii "tick"))))
 
@@ -49,9 +51,13 @@ recordText r = recordLine r ++ ascii "\n"
 unfoldable pub threadsOf : ℕ → List ℕ → List ℕ
 threadsOf kind numbers = cond (eqb kind tickKind) (replicate (getD numbers 0 1) 0) numbers
 
--- the records that a command stands for; the first rows of the grammar are the kinds
+-- the kind of the records of a line: the first rows of the grammar are the kinds, but "`receive set M CODE` is kind 5"
+unfoldable pub kindAsked : ℕ → Operation → ℕ
+kindAsked row operation = cond (eqb row beginKind && namesSet (operation .receive)) setKind row
+
+-- the records that a command stands for
 unfoldable pub recordsAsked : ℕ → List ℕ → Operation → List Record
-recordsAsked kind numbers operation = map (λ thread. record { kind = kind; thread = thread; op = operation }) (threadsOf kind numbers)
+recordsAsked row numbers operation = map (λ thread. record { kind = kindAsked row operation; thread = thread; op = operation }) (threadsOf row numbers)
 
 -- each record is lawful where it stands, the first of them told whether it is the first
 unfoldable pub lawfulRow : Bool → List Record → Bool

@@ -50,6 +50,21 @@ sameWord [] (b ∷ w) = false
 sameWord (a ∷ v) [] = false
 sameWord (a ∷ v) (b ∷ w) = eqb a b && sameWord v w
 
+-- ---- the pieces of a word
+-- what stands between them
+abbrev pub comma : ℕ
+comma = 44
+
+-- a word has one
+unfoldable pub hasComma : List ℕ → Bool
+hasComma [] = false
+hasComma (byte ∷ word) = eqb byte comma || hasComma word
+
+-- what stands before the first comma, between two, and behind the last
+unfoldable pub pieces : List ℕ → List (List ℕ)
+pieces [] = [] ∷ []
+pieces (byte ∷ word) = cond (eqb byte comma) ([] ∷ pieces word) (joined byte (pieces word))
+
 -- ---- numbers
 -- a byte is a digit
 unfoldable pub isDigit : ℕ → Bool

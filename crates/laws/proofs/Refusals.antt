@@ -13,14 +13,14 @@ use Rattle.model.specs.declared.Operation.{Operation}
 use Rattle.model.specs.declared.EntryPoint.{EntryPoint}
 use Rattle.model.specs.declared.EntryPoint.the-variants.{Main, Spark}
 use Rattle.model.specs.Codes.{nobody}
-use Rattle.model.specs.Operations.{wordLimit, sparkLimit, hasReceive, receiveTime, closedOn, targetBeyond, closedBeyond}
+use Rattle.model.specs.Operations.{wordLimit, sparkLimit, hasReceive, receiveTime, closedOn, targetBeyond, closedBeyond, emptySet}
 use Rattle.model.specs.Times.{isTimeCode}
 use Rattle.model.specs.Phases.{idle, phaseOf}
 use Rattle.model.specs.Threads.{at}
 use Rattle.model.specs.Locks.{lockFree}
 use Rattle.model.specs.WellFormed.{sizeInRange, inPhase, sendInRange, receiveInRange, wellFormed}
 use Rattle.model.specs.Calls.{Call, beginVia, sparkBegin, step, cancel, tick, State}
-use Rattle.model.specs.Refusals.{firstRefusal, badSize, notWellFormed, noThread, badLength, lockOwned, notIdle, neitherPart, withItself, noPartner, moreWords, tooManyWords, badTime, rowsOf, refusal, makeRefusal, outcomeRefusal, tableRows, argumentRows, beginRows, laterRows}
+use Rattle.model.specs.Refusals.{firstRefusal, badSize, notWellFormed, noThread, badLength, lockOwned, notIdle, neitherPart, withItself, noPartner, noMember, moreWords, tooManyWords, badTime, rowsOf, refusal, makeRefusal, outcomeRefusal, tableRows, argumentRows, beginRows, laterRows}
 use Rattle.model.specs.Promise.{FewWords}
 use Rattle.model.proofs.Laws.{implies-made, _and_, all-of-made}
 use Rattle.model.proofs.Numbers.{size-read, size-made}
@@ -31,7 +31,7 @@ use Rattle.laws.proofs.Lists.{or-left, or-right, second-fails}
 
 -- the rows of every call have numbers
 rows-numbered : (c : Call) (s : State) → numbered (rowsOf c s) ≡ true
-unfolding rowsOf tableRows argumentRows beginRows laterRows badSize notWellFormed noThread badLength lockOwned notIdle neitherPart withItself noPartner tooManyWords badTime
+unfolding rowsOf tableRows argumentRows beginRows laterRows badSize notWellFormed noThread badLength lockOwned notIdle neitherPart withItself noPartner noMember tooManyWords badTime
 rows-numbered (beginVia Main x o) s = refl
 rows-numbered (beginVia Spark x o) s = refl
 rows-numbered (step x) s = refl
@@ -100,10 +100,10 @@ send-in-range n o count time near = implies-made (o .send .present) _ (λ i. all
     lt-ltb (o .send .target) n (leb-false n (o .send .target) (second-fails (o .send .present) (leb n (o .send .target)) near i))
     and le-leb (o .send .count) wordLimit (count i) and time i and tt))
 
--- a receive part with a lawful time code and a partner in the table has its numbers in range
-receive-in-range : (n : ℕ) (r : Receive) → (hasReceive r && not (isTimeCode (receiveTime r))) ≡ false → closedBeyond n r ≡ false → receiveInRange n r ≡ true
+-- a receive part with a lawful time code and partners in the table, at least one, has its numbers in range
+receive-in-range : (n : ℕ) (r : Receive) → (hasReceive r && not (isTimeCode (receiveTime r))) ≡ false → closedBeyond n r ≡ false → emptySet r ≡ false → receiveInRange n r ≡ true
 unfolding receiveInRange
-receive-in-range n r time near = all-of-made _ (implies-made (hasReceive r) _ (λ i. not-false _ (second-fails (hasReceive r) _ time i)) and ap not near and tt)
+receive-in-range n r time near some = all-of-made _ (implies-made (hasReceive r) _ (λ i. not-false _ (second-fails (hasReceive r) _ time i)) and ap not near and ap not some and tt)
 
 -- a send part that is within a limit has no more words
 within-limit : (limit : ℕ) (o : Operation) → moreWords limit o ≡ false → o .send .present ≡ true → o .send .count ≤ limit
@@ -118,9 +118,9 @@ words-fit Spark o few i = omega (arith, within-limit sparkLimit o few i)
 
 -- what a begin that is not refused has been tested for, whatever its entry
 pub accepted-begin : (via : EntryPoint) (x : ℕ) (o : Operation) (s : State) → refusal (beginVia via x o) s ≡ 0 → AcceptedBegin s x o
-unfolding rowsOf tableRows argumentRows beginRows laterRows noThread badLength lockOwned notIdle neitherPart withItself noPartner badTime
+unfolding rowsOf tableRows argumentRows beginRows laterRows noThread badLength lockOwned notIdle neitherPart withItself noPartner noMember badTime
 accepted-begin via x o s e =
-    let (size, (formed, (below, (store, (free, (inIdle, (part, (itself, (partner, (words, (time, end))))))))))) = accepted-rows (beginVia via x o) s e in
+    let (size, (formed, (below, (store, (free, (inIdle, (part, (itself, (partner, (named, (words, (time, end)))))))))))) = accepted-rows (beginVia via x o) s e in
     let toItself = o .send .present && eqb (o .send .target) x in
     let badSend = o .send .present && not (isTimeCode (o .send .time)) in
     let badWait = hasReceive (o .receive) && not (isTimeCode (receiveTime (o .receive))) in
@@ -135,14 +135,14 @@ accepted-begin via x o s e =
       otherTarget = λ i. eqb-false (o .send .target) x (second-fails (o .send .present) (eqb (o .send .target) x) (or-left toItself (closedOn (o .receive) x) itself) i);
       otherPartner = or-right toItself (closedOn (o .receive) x) itself;
       sends = send-in-range (s .table .n) o (words-fit via o words) sendTime;
-      receives = receive-in-range (s .table .n) (o .receive) (or-right badSend badWait time) partner;
+      receives = receive-in-range (s .table .n) (o .receive) (or-right badSend badWait time) partner named;
     }
 
 -- through the spark entry also for at most three words
 pub spark-words : (x : ℕ) (o : Operation) (s : State) → refusal (sparkBegin x o) s ≡ 0 → FewWords o
 unfolding rowsOf tableRows argumentRows beginRows laterRows tooManyWords
 spark-words x o s e =
-    let (size, (formed, (below, (store, (free, (inIdle, (part, (itself, (partner, (words, later)))))))))) = accepted-rows (sparkBegin x o) s e in
+    let (size, (formed, (below, (store, (free, (inIdle, (part, (itself, (partner, (named, (words, later))))))))))) = accepted-rows (sparkBegin x o) s e in
     within-limit sparkLimit o words
 
 -- ---- making a table

@@ -1,7 +1,7 @@
--- How long a record and its words are as bytes, and the record at the front of bytes that may go on past it.
+-- The kinds of a begin; how long a record, its words and its set are as bytes; the record at the front of bytes that may go on past it.
 use mathlib.Core.Path.{_≡_, refl, sym, ap, _∙_}
 use mathlib.Core.Logic.{_≢_}
-use mathlib.Core.Bool.{Bool, true}
+use mathlib.Core.Bool.{Bool, true, false, Bool·beq, false≢true}
 use mathlib.Core.List.{List, [], _∷_, _++_, map}
 use Prim.Native.Nat.{ℕ, _+_, _*_, _≤_, _<_}
 use native.Mathlib.Omega.{arith}
@@ -9,39 +9,98 @@ use lib.ListN.{length, drop, length-append}
 use lib.Seq.{getD-take}
 use lib.Dec.{eqb}
 use borrow.Author.Tests.{eqb-true, ne-eqb}
-use Rattle.model.specs.Lists.{concat}
-use Rattle.model.specs.RecordBytes.{longestRecord, beginKind, recordLength, byte, kindByte, threadByte, lawful}
-use Rattle.model.specs.Encoding.{wordBytes}
+use Rattle.model.specs.Lists.{bit, concat}
+use Rattle.model.specs.RecordBytes.{longestRecord, beginKind, setKind, isBegin, recordLength, byte, kindByte, threadByte, lawful}
+use Rattle.model.specs.declared.Receive.{Receive}
+use Rattle.model.specs.Operations.{namesSet}
+use Rattle.model.specs.Encoding.{wordBytes, setOf, setBytes}
 use Rattle.model.specs.Decoding.{front}
-use Rattle.model.proofs.Laws.{by, all-of-read}
+use Rattle.model.proofs.Laws.{by, same?, all-of-read}
+use Rattle.laws.proofs.Lists.{or-left, or-right}
 use Rattle.laws.proofs.Joined.{take-and-rest}
 
+-- ---- the two kinds of a begin
+-- a begin without a set
+pub is-begin : (kind : ℕ) → kind ≡ beginKind → isBegin kind ≡ true
+unfolding isBegin
+is-begin kind e = rw e refl
+
+-- one with a set
+pub is-set : (kind : ℕ) → kind ≡ setKind → isBegin kind ≡ true
+unfolding isBegin
+is-set kind e = rw e refl
+
+-- another kind is no begin
+pub begin-kinds : (kind : ℕ) → kind ≢ beginKind → kind ≢ setKind → isBegin kind ≡ false
+unfolding isBegin
+begin-kinds kind d e = rw (ne-eqb kind beginKind d, ne-eqb kind setKind e) refl
+
+-- what is no begin is none without a set
+pub no-begin : (kind : ℕ) → isBegin kind ≡ false → eqb kind beginKind ≡ false
+unfolding isBegin
+no-begin kind = or-left (eqb kind beginKind) (eqb kind setKind)
+
+-- and none with one
+pub no-set : (kind : ℕ) → isBegin kind ≡ false → eqb kind setKind ≡ false
+unfolding isBegin
+no-set kind = or-right (eqb kind beginKind) (eqb kind setKind)
+
+-- a begin that is not without a set is one with a set
+pub must-set : (kind : ℕ) → isBegin kind ≡ true → kind ≢ beginKind → kind ≡ setKind
+must-set kind b d = same? kind setKind (λ e. e) (λ e. absurd (false≢true (sym (begin-kinds kind d e) ∙ b)))
+
+-- every kind is that of a begin without a set, that of one with a set, or another
+pub by-kind {ℓ} : {P : Type ℓ} (kind : ℕ) → (kind ≡ beginKind → P) → (kind ≡ setKind → P) → (kind ≢ beginKind → kind ≢ setKind → P) → P
+by-kind kind f g h = same? kind beginKind f (λ d. same? kind setKind g (λ e. h d e))
+
 -- ---- lengths
--- a record has at least four bytes
-pub record-head : (kind : ℕ) → 4 ≤ recordLength kind
-unfolding recordLength
-record-head kind = by (eqb kind beginKind) (λ e. rw e (omega arith)) (λ e. rw e (omega arith))
-
--- and at most as many as the longest
-pub record-longest : (kind : ℕ) → recordLength kind ≤ longestRecord
-unfolding recordLength
-record-longest kind = by (eqb kind beginKind) (λ e. rw e (omega arith)) (λ e. rw e (omega arith))
-
 -- a begin has 42
 pub record-begin : (kind : ℕ) → kind ≡ beginKind → recordLength kind ≡ 42
 unfolding recordLength
 record-begin kind e = rw e refl
 
--- any other four
-pub record-other : (kind : ℕ) → kind ≢ beginKind → recordLength kind ≡ 4
+-- one with a set 46
+pub record-set : (kind : ℕ) → kind ≡ setKind → recordLength kind ≡ 46
 unfolding recordLength
-record-other kind d = rw (ne-eqb kind beginKind d) refl
+record-set kind e = rw e refl
+
+-- any other four
+pub record-other : (kind : ℕ) → kind ≢ beginKind → kind ≢ setKind → recordLength kind ≡ 4
+unfolding recordLength
+record-other kind d e = rw (ne-eqb kind beginKind d, ne-eqb kind setKind e) refl
+
+-- so a record has at least four
+pub record-head : (kind : ℕ) → 4 ≤ recordLength kind
+record-head kind = by-kind kind (λ e. rw (record-begin kind e) (omega arith)) (λ e. rw (record-set kind e) (omega arith)) (λ d e. rw (record-other kind d e) (omega arith))
+
+-- and at most as many as the longest
+pub record-longest : (kind : ℕ) → recordLength kind ≤ longestRecord
+record-longest kind = by-kind kind (λ e. rw (record-begin kind e) (omega arith)) (λ e. rw (record-set kind e) (omega arith)) (λ d e. rw (record-other kind d e) (omega arith))
 
 -- words take four bytes each
 pub words-length : (words : List ℕ) → length (concat (map wordBytes words)) ≡ 4 * length words
 unfolding concat wordBytes
 words-length [] = refl
 words-length (w ∷ words) = omega (arith, words-length words)
+
+-- ---- the set of a begin, as bytes
+-- the bytes of a set that is named
+pub set-bytes : (w : Receive) → namesSet w ≡ true → setBytes w ≡ wordBytes (setOf w)
+set-bytes w e = rw e refl
+
+-- there are none where no set is named
+pub no-set-bytes : (w : Receive) → namesSet w ≡ false → setBytes w ≡ []
+no-set-bytes w e = rw e refl
+
+-- a set takes four bytes
+pub set-length : (w : Receive) → length (setBytes w) ≡ 4 * bit (namesSet w)
+unfolding wordBytes
+set-length w = by (namesSet w) (λ e. rw e refl) (λ e. rw e refl)
+
+-- a begin that is as long as its kind names a set exactly if its kind has one
+pub length-tells : (kind : ℕ) (b : Bool) → isBegin kind ≡ true → recordLength kind ≡ 42 + 4 * bit b → Bool·beq (eqb kind setKind) b ≡ true
+length-tells kind true begins long = same? kind beginKind (λ e. absurd (omega (arith, record-begin kind e))) (λ d. rw (must-set kind begins d) refl)
+length-tells kind false begins long = same? kind beginKind (λ e. rw e refl) (λ d. absurd (omega (arith, record-set kind (must-set kind begins d))))
 
 -- ---- the record at the front
 module _ (bytes : List ℕ) where

@@ -15,7 +15,7 @@ pub const TOO_SMALL: u8 = 7;
 // The letters: a flag, a thread, a record, a size of the store, a byte, a place of a queue, a word, ticks, and a code with its sign.
 const FLAG: u8 = b'1';
 
-const THREAD: u8 = b't';
+pub const THREAD: u8 = b't';
 
 const RECORDS: u8 = b'r';
 

@@ -14,7 +14,7 @@ use Rattle.model.specs.Phases.{Phase, idle, lock, check, copy, release, 
 use Rattle.model.specs.Threads.{newTable, edit, withFlags, entering, withOp, withLeft, withQueue, withOwner, withOutcome, withCopied, withWaking, polled, marked, withoutReceive}
 use Rattle.model.specs.WellFormed.{clauses, wellFormed}
 use Rattle.model.specs.Calls.{beginTable}
-use Rattle.model.specs.Examples.{sendTo, receiveOnly, openFor, closedFor, flags}
+use Rattle.model.specs.Examples.{sendTo, receiveOnly, openFor, closedFor, oneOfFor, flags}
 use Rattle.model.proofs.Forbidden.{afterForbidden}
 
 -- the places of a list of tests at which one fails
@@ -54,7 +54,7 @@ waker = wakerIn wake (receiveOnly (openFor 15))
 -- ---- a table for each clause, in the order of document 01's list
 -- the tables, each by its clause's name; one more of the same clause by what is odd in it
 pub data Clause : Type 0 where
-  size numbers ipcExactly ipcWithOtherCode bareOutcome countWithoutDone withOthers ownTarget : Clause
+  size numbers ipcExactly ipcWithOtherCode bareOutcome countWithoutDone withOthers ownTarget ownMember : Clause
   queues queuedTwice strangerQueued owners ownedNotHeld chains : Clause
   sendAndMark sendWithoutIpc poll receiving receivingWithoutPart withoutSend idleFlags releaseTarget : Clause
   sendClear sendInWake sendInUnlock sendSet noSendInLock noSendInCheck noSendInCopy : Clause
@@ -70,6 +70,7 @@ broken bareOutcome = edit 0 (withOutcome (record { code = neverBegun; source = 1
 broken countWithoutDone = edit 0 (withOutcome (record { code = neverBegun; source = nobody; count = 1 })) (newTable 3)
 broken withOthers = edit 1 (withOp (receiveOnly (closedFor 1 15))) receiver
 broken ownTarget = edit 1 (withOp (sendTo 1 [] 15 (openFor 15))) receiver
+broken ownMember = edit 1 (withOp (receiveOnly (oneOfFor 7 15))) receiver
 broken queues = edit 1 (withQueue (record { items = replicate 32 0; len = 0 })) sender
 broken queuedTwice = edit 1 (withQueue (record { items = replicate 32 0; len = 2 })) sender
 broken strangerQueued = edit 1 (withQueue (record { items = 0 ∷ 2 ∷ replicate 30 0; len = 2 })) sender
@@ -105,6 +106,7 @@ place bareOutcome = 3
 place countWithoutDone = 3
 place withOthers = 4
 place ownTarget = 4
+place ownMember = 4
 place queues = 5
 place queuedTwice = 5
 place strangerQueued = 5
@@ -146,6 +148,7 @@ clause-counts bareOutcome = refl
 clause-counts countWithoutDone = refl
 clause-counts withOthers = refl
 clause-counts ownTarget = refl
+clause-counts ownMember = refl
 clause-counts queues = refl
 clause-counts queuedTwice = refl
 clause-counts strangerQueued = refl
@@ -173,7 +176,7 @@ clause-counts copiesToOther = refl
 
 -- ---- "every number in use is in range": a table for each number, but for the queue's length, which no table breaks alone
 pub data Number : Type 0 where
-  phase target count sendTime receiveTime partner sendPart releasePart left owner code source wordCount copied waking : Number
+  phase target count sendTime receiveTime partner members noMembers sendPart releasePart left owner code source wordCount copied waking : Number
 
 -- the table itself
 unfoldable pub outOfRange : Number → Table
@@ -183,6 +186,8 @@ outOfRange count = edit 0 (withOp (record { send = record { present = true; targ
 outOfRange sendTime = edit 0 (withOp (sendTo 1 [] 16 Absent)) sender
 outOfRange receiveTime = edit 1 (withOp (receiveOnly (openFor 16))) receiver
 outOfRange partner = edit 1 (withOp (receiveOnly (closedFor 3 15))) receiver
+outOfRange members = edit 1 (withOp (receiveOnly (oneOfFor 13 15))) receiver
+outOfRange noMembers = edit 1 (withOp (receiveOnly (oneOfFor 0 15))) receiver
 outOfRange sendPart = edit 0 (withOp (record { send = record { present = false; target = 1; count = 0; time = 15; words = replicate 8 0 }; receive = Absent })) sender
 outOfRange releasePart = edit 0 (λ h. entering release (withOp (record { send = record { present = false; target = 1; count = 0; time = 0; words = replicate 8 0 }; receive = Absent }) h)) (edit 1 (withOwner 0) (newTable 3))
 outOfRange left = edit 1 (withLeft 20001) receiver
@@ -202,6 +207,8 @@ number-counts count = refl
 number-counts sendTime = refl
 number-counts receiveTime = refl
 number-counts partner = refl
+number-counts members = refl
+number-counts noMembers = refl
 number-counts sendPart = refl
 number-counts releasePart = refl
 number-counts left = refl
@@ -215,8 +222,8 @@ number-counts waking = refl
 -- ---- what the list does not ask
 pub data Odd : Type 0 where
   -- a woken sender that is not in the waker's queue; `poll` clear in check; `left` above its code's count; a count without a source;
-  -- code 2 in release; numbers of an ended operation; a queue place past the length
-  wokenElsewhere pollClear leftAbove countAlone neverBegunInRelease endedNumbers pastTheQueue : Odd
+  -- code 2 in release; numbers of an ended operation, or its empty set; a queue place past the length
+  wokenElsewhere pollClear leftAbove countAlone neverBegunInRelease endedNumbers endedSet pastTheQueue : Odd
 
 -- the table itself
 unfoldable pub odd : Odd → Table
@@ -226,6 +233,7 @@ odd leftAbove = edit 1 (λ h. withLeft 20000 (withOp (receiveOnly (openFor 1)) h
 odd countAlone = edit 0 (withOutcome (record { code = done; source = nobody; count = 8 })) (newTable 3)
 odd neverBegunInRelease = edit 0 (λ h. entering release (withOp (sendTo 1 [] 15 Absent) h)) (edit 1 (withOwner 0) (newTable 3))
 odd endedNumbers = edit 0 (λ h. withLeft 30000 (withOp (sendTo 0 [] 99 (closedFor 99 99)) h)) (newTable 3)
+odd endedSet = edit 0 (withOp (receiveOnly (oneOfFor 0 15))) (newTable 3)
 odd pastTheQueue = edit 1 (withQueue (record { items = 77 ∷ replicate 31 0; len = 0 })) (newTable 3)
 
 -- each of them is well-formed
@@ -237,6 +245,7 @@ odd-accepted leftAbove = refl
 odd-accepted countAlone = refl
 odd-accepted neverBegunInRelease = refl
 odd-accepted endedNumbers = refl
+odd-accepted endedSet = refl
 odd-accepted pastTheQueue = refl
 
 -- opens what the rows of the next file are worked out from, once those of this file hold

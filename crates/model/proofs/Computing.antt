@@ -32,7 +32,8 @@ unfolding Lists.implies Lists.allOf Lists.allBelow Lists.occurs Lists.without Li
 lists = 0
 
 unfoldable pub shared : ℕ
-unfolding Codes.isFailure Times.isTimeCode Times.isLeft Times.isHard Times.tickCount Times.fall Operations.targetBeyond Operations.message
+unfolding Codes.isFailure Times.isTimeCode Times.isLeft Times.isHard Times.tickCount Times.fall Operations.member Operations.closedOn Operations.closedBeyond
+    Operations.targetBeyond Operations.message
 shared = 0
 
 unfoldable pub threads : ℕ
@@ -61,7 +62,7 @@ calls = 0
 
 unfoldable pub refusals : ℕ
 unfolding Refusals.firstRefusal Refusals.unless Refusals.badSize Refusals.notWellFormed Refusals.noThread Refusals.badLength Refusals.lockOwned
-    Refusals.notIdle Refusals.neitherPart Refusals.withItself Refusals.noPartner Refusals.moreWords Refusals.tooManyWords Refusals.badTime Refusals.tableRows
+    Refusals.notIdle Refusals.neitherPart Refusals.withItself Refusals.noPartner Refusals.noMember Refusals.moreWords Refusals.tooManyWords Refusals.badTime Refusals.tableRows
     Refusals.argumentRows Refusals.beginRows Refusals.laterRows Refusals.rowsOf Refusals.refusal Refusals.makeRefusal Refusals.outcomeRefusal
     Refusals.searchRefusal Refusals.reportRefusal
 refusals = 0
@@ -88,8 +89,8 @@ unfolding Linearized.eventOf Linearized.acceptedEntry Linearized.entry Linearize
 orders = 0
 
 unfoldable pub bytes : ℕ
-unfolding RecordBytes.recordLength RecordBytes.wordAt RecordBytes.sendBit RecordBytes.receiveBit RecordBytes.openBit RecordBytes.lawfulBegin
-    RecordBytes.lawful Decoding.operationOf Decoding.recordOf Decoding.front Decoding.unreadable Decoding.decodeRefusal Decoding.decodeAnswer
+unfolding RecordBytes.isBegin RecordBytes.recordLength RecordBytes.wordAt RecordBytes.sendBit RecordBytes.receiveBit RecordBytes.openBit RecordBytes.lawfulBegin
+    RecordBytes.lawfulSet RecordBytes.lawful Decoding.operationOf Decoding.setOperationOf Decoding.operationBy Decoding.recordOf Decoding.front Decoding.unreadable Decoding.decodeRefusal Decoding.decodeAnswer
     Decoding.decode Encoding.wordBytes Encoding.partsOf Encoding.operationBytes Encoding.encode Encoding.allZero Encoding.lawfulRecord
     Encoding.unwritable Encoding.encodeRefusal Encoding.encodeAnswer Encoding.encodeBuffer Schedule.readFrom Schedule.decodeAll Schedule.encodeAll
 bytes = 0

@@ -28,7 +28,7 @@ use Rattle.model.specs.Refusals.{unless, makeRefusal, outcomeRefusal, re
 use Rattle.model.specs.Promise.{makeAnswer, madeTable, outcomePlace, reportAnswer}
 use Rattle.model.specs.Atomic.{AtomicThread, firstMachine, ending}
 use Rattle.model.specs.Decoding.{decodeRefusal, decodeAnswer, decode}
-use Rattle.model.specs.RecordBytes.{beginKind, lawful}
+use Rattle.model.specs.RecordBytes.{isBegin, lawful}
 use Rattle.model.specs.Encoding.{operationBytes, encode, allZero, lawfulRecord, encodeRefusal, encodeAnswer}
 use Rattle.model.specs.Bondtrace.{ascii, started}
 use Rattle.model.proofs.Laws.{by}
@@ -183,7 +183,7 @@ unfolding ascii upTo
 line-end = refl
 
 -- 23. a record that is no begin and yet holds an operation: not lawful
-pub operation-elsewhere : (first : Bool) (r : Record) → eqb (r .kind) beginKind ≡ false → allZero (operationBytes (r .op)) ≡ false → lawfulRecord first r ≡ false
+pub operation-elsewhere : (first : Bool) (r : Record) → isBegin (r .kind) ≡ false → allZero (operationBytes (r .op)) ≡ false → lawfulRecord first r ≡ false
 unfolding lawfulRecord allOf implies
 operation-elsewhere first r k o = rw (k, o) (by (lawful first (encode r)) (λ e. rw e refl) (λ e. rw e refl))
 

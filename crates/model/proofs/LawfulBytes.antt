@@ -10,11 +10,11 @@ use Rattle.model.proofs.Computing.{computing}
 
 -- ---- the bytes of lawful records, written out
 -- a record of four bytes: its kind and its thread byte
-abbrev brief : ℕ → ℕ → List ℕ
+abbrev pub brief : ℕ → ℕ → List ℕ
 brief kind thread = 0x4C ∷ 0x34 ∷ kind ∷ thread ∷ []
 
 -- the table record of two threads
-abbrev table : List ℕ
+abbrev pub table : List ℕ
 table = brief 0 2
 
 -- a step of thread 0
@@ -22,7 +22,7 @@ abbrev step : List ℕ
 step = brief 2 0
 
 -- a begin: its thread, the six bytes from parts to receive code, and the bytes of its words without the zeros at their end
-abbrev beginOf : ℕ → List ℕ → List ℕ → List ℕ
+abbrev pub beginOf : ℕ → List ℕ → List ℕ → List ℕ
 beginOf thread fields words = brief 1 thread ++ fields ++ words ++ replicate (32 - length words) 0
 
 -- 1 begins an open receive
@@ -32,6 +32,10 @@ openReceive = beginOf 1 (6 ∷ 0 ∷ 0 ∷ 0 ∷ 0 ∷ 15 ∷ []) []
 -- 0 begins to send one word to 1
 abbrev send : List ℕ
 send = beginOf 0 (1 ∷ 1 ∷ 0 ∷ 1 ∷ 15 ∷ 0 ∷ []) (250 ∷ [])
+
+-- 1 begins a receive closed on a set of one, thread 0
+abbrev pub setReceive : List ℕ
+setReceive = brief 5 1 ++ (2 ∷ 0 ∷ 0 ∷ 0 ∷ 0 ∷ 15 ∷ []) ++ replicate 32 0 ++ (1 ∷ 0 ∷ 0 ∷ 0 ∷ [])
 
 -- ---- the table
 -- a schedule and the text that is printed for it
@@ -45,7 +49,7 @@ prints schedule text = record { schedule = schedule; text = text }
 
 -- the rows, named by what their last record tries
 pub data Name : Type 0 where
-  tick-of-a-thread second-table parts-8 partner-of-open word-after-last : Name
+  tick-of-a-thread second-table parts-8 partner-of-open word-after-last open-set : Name
 
 -- the schedule and the text of each
 unfoldable pub row : Name → PrintedRow
@@ -59,6 +63,8 @@ row parts-8 = prints (table ++ openReceive ++ beginOf 0 (8 ∷ 0 ∷ 0 ∷ 0 ∷
 row partner-of-open = prints (table ++ step ++ set openReceive 6 2) "bad 12 at 8\n"
 -- "words past the count, are 0": the second of one
 row word-after-last = prints (table ++ openReceive ++ set send 14 1) "bad 12 at 46\n"
+-- "its parts with 2 and without 4": with both
+row open-set = prints (table ++ set setReceive 4 6) "bad 12 at 4\n"
 
 -- each row's schedule prints its text
 pub rows-printed : (name : Name) → bondtrace (row name .schedule) ≡ ascii (row name .text)
@@ -68,6 +74,7 @@ rows-printed second-table = refl
 rows-printed parts-8 = refl
 rows-printed partner-of-open = refl
 rows-printed word-after-last = refl
+rows-printed open-set = refl
 
 -- opens what the rows of the next file are worked out from, once those of this file hold
 unfoldable pub afterLawfulBytes : ℕ

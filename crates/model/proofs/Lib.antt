@@ -15,6 +15,7 @@ pub mod Answered
 pub mod Searched
 pub mod Limits
 pub mod EntryPoints
+pub mod PartnerSets
 pub mod Replays
 pub mod Making
 pub mod Free

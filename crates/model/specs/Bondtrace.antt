@@ -15,7 +15,7 @@ use Rattle.model.specs.Threads.{newTable}
 use Rattle.model.specs.Calls.{Call, begin, step, cancel, tick, State}
 use Rattle.model.specs.Refusals.{unless, refusal, makeRefusal}
 use Rattle.model.specs.Promise.{state, next, view}
-use Rattle.model.specs.RecordBytes.{beginKind, stepKind, cancelKind}
+use Rattle.model.specs.RecordBytes.{isBegin, stepKind, cancelKind}
 use Rattle.model.specs.Schedule.{Fault, decodeAll}
 
 -- ---- text
@@ -51,7 +51,7 @@ spaced numbers = concat (map (λ number. ascii " " ++ decimal number) numbers)
 -- the call of a record that is not the table's
 unfoldable pub callOf : Record → Call
 callOf r =
-    cond (eqb (r .kind) beginKind) (begin (r .thread) (r .op))
+    cond (isBegin (r .kind)) (begin (r .thread) (r .op))
     (cond (eqb (r .kind) stepKind) (step (r .thread))
     (cond (eqb (r .kind) cancelKind) (cancel (r .thread)) tick))
 

@@ -6,13 +6,13 @@ use Prim.Native.Nat.{ℕ}
 use lib.Dec.{eqb}
 use lib.ListN.{take}
 use Rattle.model.specs.declared.Receive.{Receive}
-use Rattle.model.specs.declared.Receive.the-variants.{Absent, Open, Closed}
+use Rattle.model.specs.declared.Receive.the-variants.{Absent, Open, Closed, OneOf}
 use Rattle.model.specs.declared.Operation.{Operation}
 use Rattle.model.specs.declared.Wait.{Wait}
 use Rattle.model.specs.declared.Record.{Record}
 use Rattle.model.specs.declared.Answer.{Answer}
 use Rattle.model.specs.Threads.{noOperation}
-use Rattle.model.specs.RecordBytes.{beginKind, recordLength, kindByte, threadByte, partsByte, targetByte, partnerByte, countByte, sendTimeByte, receiveTimeByte, wordAt, sendBit, receiveBit, openBit, lawful}
+use Rattle.model.specs.RecordBytes.{beginKind, setKind, setWord, recordLength, kindByte, threadByte, partsByte, targetByte, partnerByte, countByte, sendTimeByte, receiveTimeByte, wordAt, sendBit, receiveBit, openBit, lawful}
 use Rattle.model.specs.Answers.{Said, said, accepted, refused, replied}
 use Rattle.model.specs.Refusals.{Row, firstRefusal, unless}
 use Rattle.model.specs.Lists.{upTo}
@@ -36,12 +36,20 @@ operationOf bytes = record {
   receive = receiveOf bytes;
 }
 
+-- the operation of a begin with a set
+unfoldable pub setOperationOf : List ℕ → Operation
+setOperationOf bytes = record { send = operationOf bytes .send; receive = OneOf (receiveTimeByte bytes) (setWord bytes) }
+
+-- the operation of a record, by its kind
+unfoldable pub operationBy : ℕ → List ℕ → Operation
+operationBy kind bytes = cond (eqb kind beginKind) (operationOf bytes) (cond (eqb kind setKind) (setOperationOf bytes) noOperation)
+
 -- the record that lawful bytes stand for
 unfoldable pub recordOf : List ℕ → Record
 recordOf bytes = record {
   kind = kindByte bytes;
   thread = threadByte bytes;
-  op = cond (eqb (kindByte bytes) beginKind) (operationOf bytes) noOperation;
+  op = operationBy (kindByte bytes) bytes;
 }
 
 -- the bytes of the record at the front of an input; fewer where it is cut short

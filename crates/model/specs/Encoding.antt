@@ -6,12 +6,12 @@ use Prim.Native.Nat.{ℕ, _+_, _*_, _/_, _%_}
 use lib.Dec.{eqb, leb}
 use lib.ListN.{drop, length}
 use Rattle.model.specs.declared.Receive.{Receive}
-use Rattle.model.specs.declared.Receive.the-variants.{Absent, Open, Closed}
+use Rattle.model.specs.declared.Receive.the-variants.{Absent, Open, Closed, OneOf}
 use Rattle.model.specs.declared.Operation.{Operation}
 use Rattle.model.specs.declared.Record.{Record}
 use Rattle.model.specs.declared.Answer.{Answer}
-use Rattle.model.specs.Operations.{hasReceive, receiveTime, openPart}
-use Rattle.model.specs.RecordBytes.{beginKind, lawful}
+use Rattle.model.specs.Operations.{hasReceive, receiveTime, openPart, namesSet}
+use Rattle.model.specs.RecordBytes.{isBegin, lawful}
 use Rattle.model.specs.Lists.{implies, allOf, bit, concat}
 use Rattle.model.specs.Answers.{Said, said, accepted, refused, replied}
 use Rattle.model.specs.Refusals.{Row, firstRefusal, unless}
@@ -21,24 +21,36 @@ abbrev pub partnerOf : Receive → ℕ
 partnerOf Absent = 0
 partnerOf (Open w) = w .partner
 partnerOf (Closed w) = w .partner
+partnerOf (OneOf time set) = 0
 
 -- a word, "low byte first"
 unfoldable pub wordBytes : ℕ → List ℕ
 wordBytes word = word % 256 ∷ word / 256 % 256 ∷ word / 65536 % 256 ∷ word / 16777216 % 256 ∷ []
 
+-- the set that a receive part names; 0 without one
+abbrev pub setOf : Receive → ℕ
+setOf Absent = 0
+setOf (Open w) = 0
+setOf (Closed w) = 0
+setOf (OneOf time set) = set
+
+-- document 02, #104: "the set in four more bytes, low byte first", where the receive part names one
+abbrev pub setBytes : Receive → List ℕ
+setBytes r = cond (namesSet r) (wordBytes (setOf r)) []
+
 -- the parts byte of an operation
 unfoldable pub partsOf : Operation → ℕ
 partsOf o = bit (o .send .present) + 2 * bit (hasReceive (o .receive)) + 4 * bit (openPart (o .receive))
 
--- what stands past the fourth byte of a begin
+-- what stands past the fourth byte of a begin; "after the words" the set
 unfoldable pub operationBytes : Operation → List ℕ
 operationBytes o =
     partsOf o ∷ o .send .target ∷ partnerOf (o .receive) ∷ o .send .count ∷ o .send .time ∷ receiveTime (o .receive)
-    ∷ concat (map wordBytes (o .send .words))
+    ∷ concat (map wordBytes (o .send .words)) ++ setBytes (o .receive)
 
 -- the bytes of a record
 unfoldable pub encode : Record → List ℕ
-encode r = 0x4C ∷ 0x34 ∷ r .kind ∷ r .thread ∷ cond (eqb (r .kind) beginKind) (operationBytes (r .op)) []
+encode r = 0x4C ∷ 0x34 ∷ r .kind ∷ r .thread ∷ cond (isBegin (r .kind)) (operationBytes (r .op)) []
 
 -- each number of the list is 0
 unfoldable pub allZero : List ℕ → Bool
@@ -47,7 +59,7 @@ allZero (a ∷ l) = eqb a 0 && allZero l
 
 -- a record is lawful if its bytes are and, where it is no begin, it has no operation
 unfoldable pub lawfulRecord : Bool → Record → Bool
-lawfulRecord first r = allOf (lawful first (encode r) ∷ implies (not (eqb (r .kind) beginKind)) (allZero (operationBytes (r .op))) ∷ [])
+lawfulRecord first r = allOf (lawful first (encode r) ∷ implies (not (isBegin (r .kind))) (allZero (operationBytes (r .op))) ∷ [])
 
 -- "in writing, record unlawful or the lent run shorter than it"
 unfoldable pub unwritable : Bool → Record → List ℕ → Row

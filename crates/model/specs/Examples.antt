@@ -7,7 +7,7 @@ use lib.ListN.{length, replicate}
 use lib.Dec.{eqb}
 use Rattle.model.specs.declared.Flags.{Flags}
 use Rattle.model.specs.declared.Receive.{Receive}
-use Rattle.model.specs.declared.Receive.the-variants.{Absent, Open, Closed}
+use Rattle.model.specs.declared.Receive.the-variants.{Absent, Open, Closed, OneOf}
 use Rattle.model.specs.declared.Operation.{Operation}
 use Rattle.model.specs.declared.Outcome.{Outcome}
 use Rattle.model.specs.declared.Thread.{Thread}
@@ -96,6 +96,10 @@ openFor time = Open (record { time = time; partner = 0 })
 -- a receive closed on a partner, with a time code
 abbrev pub closedFor : ℕ → ℕ → Receive
 closedFor partner time = Closed (record { time = time; partner = partner })
+
+-- a receive closed on a set, with a time code
+abbrev pub oneOfFor : ℕ → ℕ → Receive
+oneOfFor set time = OneOf time set
 
 -- k steps of thread x
 abbrev pub steps : ℕ → ℕ → List Call

@@ -23,21 +23,29 @@ stepKind = 2
 abbrev pub cancelKind : ℕ
 cancelKind = 3
 
--- a tick, the last kind there is
+-- a tick
 abbrev pub tickKind : ℕ
 tickKind = 4
+
+-- document 02, #104: "a new kind 5 is begin with the set", the last kind there is
+abbrev pub setKind : ℕ
+setKind = 5
+
+-- a begin, of either kind
+unfoldable pub isBegin : ℕ → Bool
+isBegin kind = eqb kind beginKind || eqb kind setKind
 
 -- "others 4": the bytes of a record that is no begin, and of the head that every record has
 abbrev pub headLength : ℕ
 headLength = 4
 
--- begin is "42 bytes in all, others 4"
+-- begin is "42 bytes in all, others 4"; with a set it has "four more bytes"
 unfoldable pub recordLength : ℕ → ℕ
-recordLength kind = cond (eqb kind beginKind) 42 headLength
+recordLength kind = cond (eqb kind beginKind) 42 (cond (eqb kind setKind) 46 headLength)
 
 -- the bytes of the longest record
 abbrev pub longestRecord : ℕ
-longestRecord = 42
+longestRecord = 46
 
 -- ---- the fields
 -- byte i
@@ -80,6 +88,10 @@ receiveTimeByte bytes = byte bytes 9
 unfoldable pub wordAt : List ℕ → ℕ → ℕ
 wordAt bytes i = byte bytes (10 + 4 * i) + 256 * byte bytes (11 + 4 * i) + 65536 * byte bytes (12 + 4 * i) + 16777216 * byte bytes (13 + 4 * i)
 
+-- document 02, #104: "the set in four more bytes, low byte first, after the words": as a ninth word
+abbrev pub setWord : List ℕ → ℕ
+setWord bytes = wordAt bytes 8
+
 -- "1 send"
 unfoldable pub sendBit : ℕ → Bool
 sendBit parts = eqb (parts % 2) 1
@@ -106,15 +118,20 @@ lawfulBegin bytes =
     ∷ []
     )
 
+-- document 02, #104, the rules of a begin with a set: "its parts with 2 and without 4, and partner 0"
+unfoldable pub lawfulSet : List ℕ → Bool
+lawfulSet bytes = allOf (receiveBit (partsByte bytes) ∷ not (openBit (partsByte bytes)) ∷ eqb (partnerByte bytes) 0 ∷ [])
+
 -- the rules of every record, told whether it is the first: "the two-byte mark 4C 34"; kind 0 "first record, and only there"; "4 tick (thread byte 0)"
 unfoldable pub lawful : Bool → List ℕ → Bool
 lawful first bytes = allOf (
     eqb (byte bytes 0) 0x4C
     ∷ eqb (byte bytes 1) 0x34
-    ∷ leb (kindByte bytes) tickKind
+    ∷ leb (kindByte bytes) setKind
     ∷ Bool·beq first (eqb (kindByte bytes) tableKind)
     ∷ eqb (length bytes) (recordLength (kindByte bytes))
     ∷ implies (eqb (kindByte bytes) tickKind) (eqb (threadByte bytes) 0)
-    ∷ implies (eqb (kindByte bytes) beginKind) (lawfulBegin bytes)
+    ∷ implies (isBegin (kindByte bytes)) (lawfulBegin bytes)
+    ∷ implies (eqb (kindByte bytes) setKind) (lawfulSet bytes)
     ∷ []
     )

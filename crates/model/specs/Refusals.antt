@@ -8,7 +8,7 @@ use Rattle.model.specs.declared.Operation.{Operation}
 use Rattle.model.specs.declared.EntryPoint.{EntryPoint}
 use Rattle.model.specs.declared.EntryPoint.the-variants.{Main, Spark}
 use Rattle.model.specs.declared.Table.{Table}
-use Rattle.model.specs.Operations.{closedBeyond, wordLimit, sparkLimit, hasReceive, receiveTime, closedOn}
+use Rattle.model.specs.Operations.{closedBeyond, emptySet, wordLimit, sparkLimit, hasReceive, receiveTime, closedOn}
 use Rattle.model.specs.Times.{isTimeCode}
 use Rattle.model.specs.Phases.{idle}
 use Rattle.model.specs.Threads.{at}
@@ -67,6 +67,10 @@ withItself x o = record { when = o .send .present && eqb (o .send .target) x || 
 unfoldable pub noPartner : Table → Operation → Row
 noPartner t o = record { when = closedBeyond (t .n) (o .receive); number = 8 }
 
+-- document 02, #104: "15, empty set, at begin after 8"
+unfoldable pub noMember : Operation → Row
+noMember o = record { when = emptySet (o .receive); number = 15 }
+
 -- a send part of more words than a limit
 unfoldable pub moreWords : ℕ → Operation → Bool
 moreWords limit o = o .send .present && ltb limit (o .send .count)
@@ -93,7 +97,7 @@ argumentRows t x words = noThread t x ∷ badLength (8 * t .n) words ∷ []
 
 -- the rows on a thread that begins and on its operation, by the entry
 unfoldable pub beginRows : EntryPoint → Table → ℕ → Operation → List Row
-beginRows via t x o = lockOwned t x ∷ notIdle t x ∷ neitherPart o ∷ withItself x o ∷ noPartner t o ∷ tooManyWords via o ∷ badTime o ∷ []
+beginRows via t x o = lockOwned t x ∷ notIdle t x ∷ neitherPart o ∷ withItself x o ∷ noPartner t o ∷ noMember o ∷ tooManyWords via o ∷ badTime o ∷ []
 
 -- the rows of each call after those on the table
 unfoldable pub laterRows : Call → State → List Row

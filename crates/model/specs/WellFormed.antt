@@ -13,7 +13,7 @@ use Rattle.model.specs.declared.Receive.{Receive}
 use Rattle.model.specs.declared.Thread.{Thread}
 use Rattle.model.specs.declared.Table.{Table}
 use Rattle.model.specs.Lists.{implies, allOf, allBelow, bit, occurs}
-use Rattle.model.specs.Operations.{closedBeyond, wordLimit, hasReceive, receiveTime, closedOn}
+use Rattle.model.specs.Operations.{closedBeyond, emptySet, wordLimit, hasReceive, receiveTime, closedOn}
 use Rattle.model.specs.Codes.{done, running, codes, sameCode, nobody}
 use Rattle.model.specs.Times.{isTimeCode, isLeft}
 use Rattle.model.specs.Phases.{isOneOf, Phase, idle, lock, check, copy, release, sleep, look, wake, unlock}
@@ -43,9 +43,9 @@ nobodyOrBelow n x = eqb x nobody || ltb x n
 unfoldable pub sendInRange : ℕ → SendPart → Bool
 sendInRange n part = implies (part .present) (allOf (ltb (part .target) n ∷ leb (part .count) wordLimit ∷ isTimeCode (part .time) ∷ []))
 
--- the numbers of a receive part: time code, partner
+-- the numbers of a receive part: time code, partners, which are no "empty set"
 unfoldable pub receiveInRange : ℕ → Receive → Bool
-receiveInRange n r = allOf (implies (hasReceive r) (isTimeCode (receiveTime r)) ∷ not (closedBeyond n r) ∷ [])
+receiveInRange n r = allOf (implies (hasReceive r) (isTimeCode (receiveTime r)) ∷ not (closedBeyond n r) ∷ not (emptySet r) ∷ [])
 
 -- "every number in use is in range": of a running operation all numbers of its parts are in use, and `left`; of an ended one only the
 -- target that release still frees (`releaseHasTarget`); a thread that sends, or frees its target's lock, has a send part

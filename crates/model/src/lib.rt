@@ -24,11 +24,12 @@ pub struct Wait {
     pub partner: u8,
 }
 
-// A receive part: none, open, or closed on one partner.
+// A receive part: none, open, closed on one partner, or closed on a set of threads: a time code, and one bit for each thread, thread 0 the lowest.
 pub enum Receive {
     Absent,
     Open(Wait),
     Closed(Wait),
+    OneOf(u8, u32),
 }
 
 // An operation: a send part or none, and a receive part or none.
@@ -101,7 +102,7 @@ pub enum OutcomeAnswer {
     Shown(Outcome),
 }
 
-// One record of a schedule: kind 0 table, 1 begin, 2 step, 3 cancel, 4 tick. Only begin uses op; thread is N for a table and 0 for a tick.
+// One record of a schedule: kind 0 table, 1 begin, 2 step, 3 cancel, 4 tick, 5 begin with a set. Only a begin uses op; thread is N for a table and 0 for a tick.
 pub struct Record {
     pub kind: u8,
     pub thread: u8,

@@ -8,16 +8,18 @@ use native.Mathlib.Omega.{arith}
 use lib.ListN.{length, drop, length-append}
 use lib.Seq.{drop-drop}
 use lib.Dec.{eqb}
-use Rattle.model.specs.Lists.{concat}
+use Rattle.model.specs.Lists.{bit, concat}
 use Rattle.model.specs.RecordBytes.{beginKind, recordLength, kindByte, wordAt, lawful}
-use Rattle.model.specs.Decoding.{front, operationOf, recordOf}
-use Rattle.model.specs.Encoding.{encode}
+use Rattle.model.specs.Decoding.{front, operationOf, setOperationOf, recordOf}
+use Rattle.model.specs.Encoding.{operationBytes, encode}
 use Rattle.model.specs.Schedule.{isEmpty, readFrom, encodeAll}
 use Rattle.model.specs.Bondtrace.{Tally, recordsPlayed}
 use Rattle.model.proofs.Laws.{by, length-up-to}
 use Rattle.laws.proofs.Lists.{cond-true, cond-false}
 use Rattle.laws.proofs.Schedule.{lawful-length}
-use Rattle.roundtrip.proofs.Records.{operation-length}
+use Rattle.roundtrip.proofs.Records.{operation-length, operation-begin, operation-set}
+use Rattle.roundtrip.proofs.Operations.{read-bare}
+use Rattle.laws.proofs.Schedule.{is-begin, is-set, by-kind, begin-kinds, record-begin, record-set, record-other}
 use Rattle.roundtrip.proofs.Reading.{reads-none, reads-fault, later, reads-one, enough}
 use Rattle.roundtrip.proofs.Ends.{faultAt}
 use Rattle.pieces.specs.Playing.{Progress, ahead, playedOn}
@@ -26,8 +28,14 @@ use Rattle.pieces.proofs.Playing.{behind, further, stoppedAt, of-all-pl
 
 -- the record that bytes stand for is written with as many bytes as its kind says
 written-length : (bytes : List ℕ) → length (encode (recordOf bytes)) ≡ recordLength (kindByte bytes)
-unfolding encode recordOf recordLength operationOf
-written-length bytes = by (eqb (kindByte bytes) beginKind) (λ e. rw e (omega (arith, operation-length (operationOf bytes) (length-up-to 8 (wordAt bytes))))) (λ e. rw e refl)
+unfolding encode recordOf
+written-length bytes = let k = kindByte bytes in by-kind k
+    (λ e. rw (is-begin k e, operation-begin k e bytes, record-begin k e) (omega (arith, operation-length (operationOf bytes) (unfold operationOf in length-up-to 8 (wordAt bytes)), ap bit (read-bare bytes))))
+    (λ e. rw (is-set k e, operation-set k e bytes, record-set k e) (omega (arith, set-length)))
+    (λ d e. rw (begin-kinds k d e, record-other k d e) refl)
+  where
+    set-length : length (operationBytes (setOperationOf bytes)) ≡ 42
+    set-length = operation-length (setOperationOf bytes) (unfold setOperationOf operationOf in length-up-to 8 (wordAt bytes)) ∙ (unfold setOperationOf in refl)
 
 -- reading from any byte on, with enough records allowed for
 abbrev ReadAs : Tally → List ℕ → Progress → Type 0

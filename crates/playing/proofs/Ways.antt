@@ -19,8 +19,8 @@ use Rattle.model.specs.WellFormed.{wellFormed}
 use Rattle.model.specs.Calls.{begin, step, cancel, tick, State}
 use Rattle.model.specs.Refusals.{firstRefusal, noThread, lockOwned, argumentRows, beginRows, laterRows, refusal}
 use Rattle.model.specs.Promise.{state, Promise}
-use Rattle.model.specs.RecordBytes.{beginKind, stepKind, cancelKind, tickKind, kindByte, threadByte, recordLength, lawful}
-use Rattle.model.specs.Decoding.{operationOf, front}
+use Rattle.model.specs.RecordBytes.{stepKind, cancelKind, tickKind, isBegin, kindByte, threadByte, recordLength, lawful}
+use Rattle.model.specs.Decoding.{operationBy, front}
 use Rattle.model.proofs.Laws.{by, same?}
 use Rattle.laws.proofs.Lists.{cond-true, cond-false}
 use Rattle.laws.proofs.Tables.{put-own}
@@ -109,7 +109,7 @@ module _ {from : Playback} {store₀ bytes : List ℕ} {n : ℕ} {store : List �
         (λ e. turn-refused G good to passes (step x) (calls-step rest e) (step-beyond (state now store) formed x past))
         (λ d. same? (kindByte rest) cancelKind
         (λ e. turn-refused G good to passes (cancel x) (calls-cancel rest e) (cancel-beyond (state now store) formed x past))
-        (λ f. turn-refused G good to passes (begin x (operationOf rest)) (calls-begin rest (must-begin rest good kind d f)) (begin-beyond (state now store) formed x past (operationOf rest))))
+        (λ f. turn-refused G good to passes (begin x (operationBy (kindByte rest) rest)) (calls-begin rest (must-begin rest good kind d f)) (begin-beyond (state now store) formed x past (operationBy (kindByte rest) rest))))
 
     module _ (below : x < n) where
       -- a step
@@ -132,10 +132,10 @@ module _ {from : Playback} {store₀ bytes : List ℕ} {n : ℕ} {store : List �
           cancelled a after kept = turn-accepted G good to passes (cancel x) (calls-cancel rest kind) (cancel-runs below store free) a after store kept
 
       -- a begin
-      module _ (ticks : kindByte rest ≢ tickKind) (steps : kindByte rest ≢ stepKind) (cancels : kindByte rest ≢ cancelKind) (o : Operation) (reads : o ≡ operationOf rest) (g : ℕ)
+      module _ (ticks : kindByte rest ≢ tickKind) (steps : kindByte rest ≢ stepKind) (cancels : kindByte rest ≢ cancelKind) (o : Operation) (reads : o ≡ operationBy (kindByte rest) rest) (g : ℕ)
           (rows : g ≡ firstRefusal (beginRows Main now x o)) where
         -- the call of the record
-        calls : kindByte rest ≡ beginKind
+        calls : isBegin (kindByte rest) ≡ true
         calls = must-begin rest good ticks steps cancels
 
         -- one that is refused

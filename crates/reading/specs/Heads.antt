@@ -4,14 +4,14 @@ use mathlib.Core.List.{List, [], _∷_}
 use Prim.Native.Nat.{ℕ}
 use lib.Dec.{eqb, leb}
 use Rattle.model.specs.Lists.{implies, allOf}
-use Rattle.model.specs.RecordBytes.{byte, kindByte, threadByte, tableKind, tickKind}
+use Rattle.model.specs.RecordBytes.{byte, kindByte, threadByte, tableKind, tickKind, setKind}
 
 -- the mark, a kind that there is, the table's kind first and only there, and no thread in a tick
 unfoldable pub lawfulHead : Bool → List ℕ → Bool
 lawfulHead first bytes = allOf (
     eqb (byte bytes 0) 0x4C
     ∷ eqb (byte bytes 1) 0x34
-    ∷ leb (kindByte bytes) tickKind
+    ∷ leb (kindByte bytes) setKind
     ∷ Bool·beq first (eqb (kindByte bytes) tableKind)
     ∷ implies (eqb (kindByte bytes) tickKind) (eqb (threadByte bytes) 0)
     ∷ []

@@ -1,12 +1,12 @@
-// The bytes of a begin past its head: which parts its operation has, their fields, and eight words.
+// The bytes of a begin past its head: which parts its operation has, their fields, eight words, and a set where its kind has one.
 ghost use mathlib.Core.Path.{_≡_};
 ghost use mathlib.Core.Bool.{_||_};
-ghost use Prim.Native.Nat.{_≤_, _<_};
+ghost use Prim.Native.Nat.{_+_, _*_, _≤_, _<_};
 ghost use lib.ListN.{length};
 ghost use lib.Dec.{eqb, ltb};
 ghost use Rattle.model.specs.Lists.{allBelow, upTo};
-ghost use Rattle.model.specs.RecordBytes.{wordAt, sendBit, receiveBit, openBit, lawfulBegin};
-ghost use Rattle.model.specs.Decoding.{receiveOf};
+ghost use Rattle.model.specs.RecordBytes.{wordAt, sendBit, receiveBit, openBit, lawfulBegin, lawfulSet};
+ghost use Rattle.model.specs.Decoding.{receiveOf, operationOf, setOperationOf};
 use crate::COUNT;
 use crate::FIRST_WORD;
 use crate::PARTNER;
@@ -15,13 +15,14 @@ use crate::RECEIVE_TIME;
 use crate::SEND_TIME;
 use crate::TARGET;
 use model::Receive;
+use model::SendPart;
 use model::Wait;
 
 // The parts byte of an operation with every part.
 const ALL_PARTS: u8 = 7;
 
 // The parts byte has a send part.
-pub fn send_bit(parts: u8) -> bool
+fn send_bit(parts: u8) -> bool
     ensures { λ r. ⌜ r ≡ sendBit parts ⌝ }
 {
     parts % 2 == 1
@@ -48,10 +49,9 @@ fn wide(b: u8) -> u32
     b as u32
 }
 
-// Word i of a begin's eight, low byte first.
+// Word i of a begin, low byte first.
 fn word_at(bytes: &[u8], i: usize) -> u32
-    requires { ⌜ 42 ≤ length (now bytes) ⌝ }
-    requires { ⌜ i < 8 ⌝ }
+    requires { ⌜ 10 + 4 * i + 4 ≤ length (now bytes) ⌝ }
     ensures { λ r. ⌜ r ≡ wordAt (now (bytes .entry)) i ⌝ }
 {
     let start = FIRST_WORD + 4 * i;
@@ -93,8 +93,17 @@ pub fn lawful_begin(bytes: &[u8]) -> bool
         & no_word_past(bytes, bytes[COUNT])
 }
 
+// The rules of a begin with a set.
+pub fn lawful_set(bytes: &[u8]) -> bool
+    requires { ⌜ 42 ≤ length (now bytes) ⌝ }
+    ensures { λ r. ⌜ r ≡ lawfulSet (now (bytes .entry)) ⌝ }
+{
+    let parts = bytes[PARTS];
+    receive_bit(parts) & !open_bit(parts) & (bytes[PARTNER] == 0)
+}
+
 // The eight words of a begin.
-pub fn words_at(bytes: &[u8]) -> [u32; 8]
+fn words_at(bytes: &[u8]) -> [u32; 8]
     requires { ⌜ 42 ≤ length (now bytes) ⌝ }
     ensures { λ r. ⌜ r ≡ upTo 8 (wordAt (now (bytes .entry))) ⌝ }
 {
@@ -105,6 +114,21 @@ pub fn words_at(bytes: &[u8]) -> [u32; 8]
         i += 1;
     }
     words
+}
+
+// The send part of a begin.
+pub fn send_at(bytes: &[u8]) -> SendPart
+    requires { ⌜ 42 ≤ length (now bytes) ⌝ }
+    ensures { λ r. ⌜ r ≡ operationOf (now (bytes .entry)) .send ⌝ }
+{
+    let words = words_at(bytes);
+    SendPart {
+        present: send_bit(bytes[PARTS]),
+        target: bytes[TARGET],
+        count: bytes[COUNT],
+        time: bytes[SEND_TIME],
+        words: words,
+    }
 }
 
 // The receive part of a begin.
@@ -124,4 +148,14 @@ pub fn receive_at(bytes: &[u8]) -> Receive
         return Receive::Open(wait);
     }
     Receive::Closed(wait)
+}
+
+// The receive part of a begin with a set, which is its ninth word.
+pub fn set_at(bytes: &[u8]) -> Receive
+    requires { ⌜ 46 ≤ length (now bytes) ⌝ }
+    ensures { λ r. ⌜ r ≡ setOperationOf (now (bytes .entry)) .receive ⌝ }
+{
+    let time = bytes[RECEIVE_TIME];
+    let set = word_at(bytes, 8);
+    Receive::OneOf(time, set)
 }

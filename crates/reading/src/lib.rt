@@ -2,17 +2,17 @@
 mod begin_bytes;
 
 ghost use mathlib.Core.Path.{_≡_};
+ghost use mathlib.Core.Bool.{true};
 ghost use Prim.Native.Nat.{_≤_};
 ghost use lib.ListN.{length};
 ghost use Rattle.model.specs.Threads.{noOperation};
-ghost use Rattle.model.specs.RecordBytes.{recordLength, lawful};
-ghost use Rattle.model.specs.Decoding.{operationOf, front, DecodePromise};
+ghost use Rattle.model.specs.RecordBytes.{isBegin, recordLength, kindByte, lawful};
+ghost use Rattle.model.specs.Decoding.{operationBy, front, DecodePromise};
 ghost use Rattle.reading.specs.Heads.{lawfulHead};
 use model::Answer;
 use model::Decoded;
 use model::Operation;
 use model::Record;
-use model::SendPart;
 
 // The kind of the record that makes a table, the first of a schedule.
 pub const TABLE: u8 = 0;
@@ -26,14 +26,23 @@ pub const STEP: u8 = 2;
 // The kind of a cancel.
 pub const CANCEL: u8 = 3;
 
-// The kind of a tick, the last kind there is.
+// The kind of a tick.
 pub const TICK: u8 = 4;
 
-// How many bytes a begin has, the longest record.
+// The kind of a begin with a set, the last kind there is.
+pub const SET: u8 = 5;
+
+// How many bytes a begin has.
 pub const BEGIN_BYTES: usize = 42;
+
+// How many bytes a begin with a set has.
+pub const SET_BYTES: usize = 46;
 
 // How many bytes any other record has, and every record starts with.
 pub const HEAD_BYTES: usize = 4;
+
+// How many bytes the longest record has.
+pub const LONGEST: usize = SET_BYTES;
 
 // The first byte of every record.
 pub const FIRST_MARK: u8 = 0x4C;
@@ -68,6 +77,9 @@ pub const RECEIVE_TIME: usize = 9;
 // The place of the first of a begin's eight words.
 pub const FIRST_WORD: usize = 10;
 
+// The place of a begin's set, behind its words.
+pub const SET_WORD: usize = 42;
+
 // The refusal of a record that is unlawful, cut short, or longer than the bytes it is to be written to.
 pub const BAD_RECORD: u8 = 12;
 
@@ -78,7 +90,17 @@ pub fn record_length(kind: u8) -> usize
     if kind == BEGIN {
         return BEGIN_BYTES;
     }
+    if kind == SET {
+        return SET_BYTES;
+    }
     HEAD_BYTES
+}
+
+// A record of this kind is a begin, with a set or without.
+pub fn is_begin(kind: u8) -> bool
+    ensures { λ r. ⌜ r ≡ isBegin kind ⌝ }
+{
+    (kind == BEGIN) | (kind == SET)
 }
 
 // The rules of every record that its first four bytes decide.
@@ -89,7 +111,7 @@ fn lawful_head(first: bool, bytes: &[u8]) -> bool
     let kind = bytes[KIND];
     (bytes[0] == FIRST_MARK)
         & (bytes[1] == SECOND_MARK)
-        & (kind <= TICK)
+        & (kind <= SET)
         & (first == (kind == TABLE))
         & (!(kind == TICK) | (bytes[THREAD] == 0))
 }
@@ -104,29 +126,31 @@ pub fn is_lawful(first: bool, bytes: &[u8]) -> bool
     if !lawful_head(first, bytes) {
         return false;
     }
-    if bytes[KIND] != BEGIN {
+    let kind = bytes[KIND];
+    if !is_begin(kind) {
         return true;
     }
-    if bytes.len() < BEGIN_BYTES {
+    if bytes.len() < record_length(kind) {
         return false;
     }
-    begin_bytes::lawful_begin(bytes)
+    begin_bytes::lawful_begin(bytes) & ((kind == BEGIN) | begin_bytes::lawful_set(bytes))
 }
 
-// The operation of a begin.
+// The operation of a begin, by its kind.
 pub fn operation_at(bytes: &[u8]) -> Operation
-    requires { ⌜ 42 ≤ length (now bytes) ⌝ }
-    ensures { λ r. ⌜ r ≡ operationOf (now (bytes .entry)) ⌝ }
+    requires { ⌜ isBegin (kindByte (now bytes)) ≡ true ⌝ }
+    requires { ⌜ recordLength (kindByte (now bytes)) ≤ length (now bytes) ⌝ }
+    ensures { λ r. ⌜ r ≡ operationBy (kindByte (now (bytes .entry))) (now (bytes .entry)) ⌝ }
 {
-    let words = begin_bytes::words_at(bytes);
-    let send = SendPart {
-        present: begin_bytes::send_bit(bytes[PARTS]),
-        target: bytes[TARGET],
-        count: bytes[COUNT],
-        time: bytes[SEND_TIME],
-        words: words,
-    };
-    let receive = begin_bytes::receive_at(bytes);
+    let send = begin_bytes::send_at(bytes);
+    if bytes[KIND] == BEGIN {
+        let receive = begin_bytes::receive_at(bytes);
+        return Operation {
+            send: send,
+            receive: receive,
+        };
+    }
+    let receive = begin_bytes::set_at(bytes);
     Operation {
         send: send,
         receive: receive,
@@ -157,7 +181,7 @@ pub fn read(first: bool, bytes: &[u8]) -> Decoded
     }
     let kind = bytes[KIND];
     let thread = bytes[THREAD];
-    if kind != BEGIN {
+    if !is_begin(kind) {
         let item = bare_record(kind, thread);
         return Decoded {
             answer: Answer::Accepted,

@@ -2,15 +2,16 @@
 ghost use mathlib.Core.Path.{_≡_};
 ghost use Prim.Native.Nat.{_≤_};
 ghost use lib.ListN.{length};
+ghost use Rattle.model.specs.RecordBytes.{longestRecord};
 ghost use Rattle.model.specs.Decoding.{decode};
 ghost use Rattle.record_input.specs.Places.{Within, Places};
 use libc::STDOUT_FILENO;
 use model::Answer;
 use model::Record;
-use reading::BEGIN_BYTES;
+use reading::LONGEST;
 
 // No schedule is followed past this byte, so that the count of bytes cannot overflow.
-pub const LAST_BYTE: u64 = u64::MAX - BEGIN_BYTES as u64;
+pub const LAST_BYTE: u64 = u64::MAX - LONGEST as u64;
 
 // A slice of the buffer: the bytes from start to end.
 pub struct Span {
@@ -54,7 +55,7 @@ fn unread(input: i32, buffer: &mut [u8], left: Span) -> Span
 {
     let start = left.start;
     let end = left.end;
-    if BEGIN_BYTES <= end - start {
+    if LONGEST <= end - start {
         return left;
     }
     // Only the input's end leaves room in the buffer.
@@ -71,7 +72,7 @@ fn unread(input: i32, buffer: &mut [u8], left: Span) -> Span
 // Reads the record at the front of the bytes, told whether it is the first.
 fn take(first: bool, bytes: &[u8]) -> Taken
     ensures { λ r. ⌜ r .length ≤ length (now (bytes .entry)) ⌝ }
-    ensures { λ r. ⌜ r .length ≤ 42 ⌝ }
+    ensures { λ r. ⌜ r .length ≤ longestRecord ⌝ }
     ensures { λ r. ⌜ r .item ≡ decode first (now (bytes .entry)) ⌝ }
 {
     let decoded = reading::read(first, bytes);

@@ -11,10 +11,10 @@ ghost use Rattle.record_text.specs.Lines.{beginLine};
 use model::Receive;
 use model::Record;
 use model::SendPart;
-use reading::BEGIN;
 use reading::CANCEL;
 use reading::STEP;
 use reading::TABLE;
+use reading::is_begin;
 use text::SPACE;
 use text::put_byte;
 use text::put_number;
@@ -85,6 +85,11 @@ fn put_receive(out: &mut [u8], start: usize, receive: Receive) -> usize
             let aimed = put_spaced(out, named, wait.partner as u32);
             put_spaced(out, aimed, wait.time as u32)
         }
+        Receive::OneOf(time, set) => {
+            let named = put_text(out, start, b" receive set");
+            let aimed = put_spaced(out, named, set);
+            put_spaced(out, aimed, time as u32)
+        }
     }
 }
 
@@ -117,7 +122,7 @@ pub fn put_record(out: &mut [u8], start: usize, item: Record) -> usize
     if kind == TABLE {
         return put_named(out, start, b"table", item.thread);
     }
-    if kind == BEGIN {
+    if is_begin(kind) {
         return put_begin(out, start, item);
     }
     if kind == STEP {

@@ -6,7 +6,7 @@ use lib.Dec.{eqb}
 use Rattle.model.specs.declared.Operation.{Operation}
 use Rattle.model.specs.declared.EntryPoint.{EntryPoint}
 use Rattle.model.specs.declared.Table.{Table}
-use Rattle.model.specs.Refusals.{Row, lockOwned, notIdle, neitherPart, withItself, noPartner, tooManyWords, badTime}
+use Rattle.model.specs.Refusals.{Row, lockOwned, notIdle, neitherPart, withItself, noPartner, noMember, tooManyWords, badTime}
 
 -- the first of two refusals, each 0 where there is none
 unfoldable pub firstOf : ℕ → ℕ → ℕ
@@ -18,4 +18,4 @@ threadRows t x = lockOwned t x ∷ notIdle t x ∷ []
 
 -- the rows on the operation that it begins
 unfoldable pub operationRows : EntryPoint → Table → ℕ → Operation → List Row
-operationRows via t x o = neitherPart o ∷ withItself x o ∷ noPartner t o ∷ tooManyWords via o ∷ badTime o ∷ []
+operationRows via t x o = neitherPart o ∷ withItself x o ∷ noPartner t o ∷ noMember o ∷ tooManyWords via o ∷ badTime o ∷ []

@@ -116,12 +116,16 @@ fn operation_refusal(via: EntryPoint, n: u8, x: u8, op: Operation) -> u8
         7,
     );
     let partner = row(threads::closed_beyond(n, receive), 8);
+    let nobody = row(threads::is_empty(receive), 15);
     let words = words_refusal(via, op);
     let time = row(
         (send.present & (LAST_TIME_CODE < send.time)) | (receives & (LAST_TIME_CODE < waits)),
         10,
     );
-    first(neither, first(itself, first(partner, first(words, time))))
+    first(
+        neither,
+        first(itself, first(partner, first(nobody, first(words, time)))),
+    )
 }
 
 // The rows on the thread that begins, which is h, and on its operation.

@@ -1,7 +1,7 @@
 -- Laws of reasons as text, and of words that are said.
 use mathlib.Core.Logic.{_≢_}
 use mathlib.Core.Path.{_≡_, refl, sym, _∙_, ap}
-use mathlib.Core.Bool.{true, false, cond}
+use mathlib.Core.Bool.{true, false, not}
 use mathlib.Core.List.{List, [], _∷_, _++_, append-assoc, append-nil}
 use Prim.Native.Nat.{ℕ, zero, suc, _≤_}
 use native.Mathlib.Omega.{arith}
@@ -10,13 +10,14 @@ use lib.ListN.{length, drop, List·getD-eq-default}
 use lib.Seq.{drop-nil}
 use borrow.Author.Tests.{eq-eqb, ne-eqb}
 use Rattle.model.specs.Lists.{upTo}
+use Rattle.model.specs.Schedule.{isEmpty}
 use Rattle.model.specs.Bondtrace.{ascii}
 use Rattle.language.specs.Words.{words}
-use Rattle.language.specs.Commands.{reasons, reasonText}
+use Rattle.language.specs.Commands.{notNumber, reasons, reasonText}
 use Rattle.scanning.specs.Scanned.{Found, between}
 use Rattle.text.specs.Writing.{Written}
 use Rattle.text.proofs.Writing.{nothing-written, _then_}
-use Rattle.replies.specs.Replied.{namedWord, behindSpaces}
+use Rattle.replies.specs.Replied.{namesWord, namedWord, behindSpaces}
 
 -- past the last reason there is no text
 pub no-reason : (k : ℕ) → k ≢ 0 → k ≢ 1 → k ≢ 2 → k ≢ 3 → k ≢ 4 → k ≢ 5 → k ≢ 6 → k ≢ 7 → k ≢ 8 → k ≢ 9 → k ≢ 10 → k ≢ 11 → reasonText k ≡ []
@@ -29,17 +30,32 @@ no-reason k n0 n1 n2 n3 n4 n5 n6 n7 n8 n9 n10 n11 = List·getD-eq-default reason
     past : (k : ℕ) → 6 ≤ k → k ≢ 6 → k ≢ 7 → k ≢ 8 → k ≢ 9 → k ≢ 10 → k ≢ 11 → 12 ≤ k
     past k h n6 n7 n8 n9 n10 n11 = omega arith
 
--- no word is named
-pub no-word : (word : List ℕ) → length word ≡ 0 → namedWord word ≡ []
-unfolding namedWord
-no-word [] e = refl
-no-word (byte ∷ word) e = absurd (omega arith)
+-- ---- the word that is wrong
+-- a word is empty where it has no byte
+no-byte : (word : List ℕ) → eqb (length word) 0 ≡ isEmpty word
+no-byte [] = refl
+no-byte (byte ∷ word) = ne-eqb (suc (length word)) 0 (λ e. omega arith)
 
--- a word is
-pub a-word : (word : List ℕ) → length word ≢ 0 → namedWord word ≡ ascii ": " ++ word
-unfolding namedWord
-a-word [] n = absurd (n refl)
-a-word (byte ∷ word) n = refl
+module _ (reason : ℕ) (word : List ℕ) where
+  -- what is no number is named
+  pub names-none : reason ≡ notNumber → true ≡ namesWord reason word
+  unfolding namesWord
+  names-none e = rw (eq-eqb reason notNumber e)
+
+  -- of another reason a word is
+  pub names-some : reason ≢ notNumber → not (eqb (length word) 0) ≡ namesWord reason word
+  unfolding namesWord
+  names-some n = rw (ne-eqb reason notNumber n, no-byte)
+
+  -- it is named
+  pub named : namesWord reason word ≡ true → namedWord reason word ≡ ascii ": " ++ word
+  unfolding namedWord
+  named e = rw e
+
+  -- it is not
+  pub not-named : namesWord reason word ≡ false → namedWord reason word ≡ []
+  unfolding namedWord
+  not-named e = rw e
 
 -- ---- the words of a line from a place on, by the first that is found
 module _ {line : List ℕ} {from start end : ℕ} (f : Found line from start end) where

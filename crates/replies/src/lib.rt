@@ -1,10 +1,11 @@
 // What the console says of itself: errors, marks and help, written into a caller's bytes from a place on, as far as they reach.
+ghost use mathlib.Core.Path.{_≡_};
 ghost use Prim.Native.Nat.{_≤_};
 ghost use lib.ListN.{length, drop};
 ghost use Rattle.language.specs.Words.{words};
 ghost use Rattle.language.specs.Commands.{reasonText};
 ghost use Rattle.text.specs.Writing.{Written};
-ghost use Rattle.replies.specs.Replied.{namedWord, errorText, behindSpaces, joinedWords, saidText};
+ghost use Rattle.replies.specs.Replied.{namesWord, namedWord, errorText, behindSpaces, joinedWords, saidText};
 use scanning::next_word;
 use text::NEWLINE;
 use text::SPACE;
@@ -38,15 +39,25 @@ fn put_reason(out: &mut [u8], start: usize, reason: u8) -> usize
     }
 }
 
-// The word that is wrong, behind a colon, where there is one.
-fn put_named(out: &mut [u8], start: usize, word: &[u8]) -> usize
-    ensures { λ r. ⌜ Written start (namedWord (now (word .entry))) (now (out .entry)) (now (out .exit)) r ⌝ }
+// Whether the word that is wrong is named: an empty one only between commas.
+fn names_word(reason: u8, word: &[u8]) -> bool
+    ensures { λ r. ⌜ r ≡ namesWord reason (now (word .entry)) ⌝ }
 {
-    if word.len() == 0 {
-        return start;
+    if reason == letters::NOT_NUMBER {
+        return true;
     }
-    let end = put_text(out, start, b": ");
-    put_text(out, end, word)
+    word.len() != 0
+}
+
+// The word that is wrong, behind a colon, where it is named.
+fn put_named(out: &mut [u8], start: usize, reason: u8, word: &[u8]) -> usize
+    ensures { λ r. ⌜ Written start (namedWord reason (now (word .entry))) (now (out .entry)) (now (out .exit)) r ⌝ }
+{
+    if names_word(reason, word) {
+        let end = put_text(out, start, b": ");
+        return put_text(out, end, word);
+    }
+    start
 }
 
 // The line that says why line n is no command.
@@ -57,7 +68,7 @@ pub fn put_error(out: &mut [u8], start: usize, n: u64, reason: u8, word: &[u8]) 
     let numbered = put_number(out, named, n);
     let spaced = put_text(out, numbered, b": ");
     let told = put_reason(out, spaced, reason);
-    let ended = put_named(out, told, word);
+    let ended = put_named(out, told, reason, word);
     put_byte(out, ended, NEWLINE)
 }
 
@@ -116,7 +127,8 @@ pub fn put_help(out: &mut [u8], start: usize) -> usize {
         start,
         b"\
 table N                  a new table of N threads (1 to 32), a store of zeros, records for the report
-begin X PARTS            thread X begins; PARTS: [send T CODE WORD ..] [receive any CODE | receive P CODE]
+begin X PARTS            thread X begins; PARTS: [send T CODE WORD ..] [receive any CODE | receive P CODE | receive P,Q,.. CODE | receive set M CODE]
+                         M is a set of threads, one bit each, thread 0 the lowest
 spark X PARTS            the same through the spark entry, which takes at most three words
 step X ..                one step of each thread named
 cancel X                 cancels what X runs

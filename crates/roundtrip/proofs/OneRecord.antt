@@ -11,7 +11,7 @@ use borrow.Author.Tests.{leb-true, leb-false, le-leb, lt-leb}
 use Rattle.model.specs.declared.Record.{Record}
 use Rattle.model.specs.Answers.{accepted, refused, replied}
 use Rattle.model.specs.Refusals.{unless}
-use Rattle.model.specs.RecordBytes.{beginKind, lawful}
+use Rattle.model.specs.RecordBytes.{isBegin, lawful}
 use Rattle.model.specs.Decoding.{front, recordOf, decodeAnswer, decode}
 use Rattle.model.specs.Encoding.{encode, lawfulRecord, encodeRefusal, encodeAnswer, encodeBuffer}
 use Rattle.model.proofs.Laws.{by, and-made}
@@ -58,7 +58,7 @@ record-bytes r fits zero = omega arith
 record-bytes r fits (suc zero) = omega arith
 record-bytes r fits (suc (suc zero)) = fits .kind
 record-bytes r fits (suc (suc (suc zero))) = fits .thread
-record-bytes r fits (suc (suc (suc (suc i)))) = by (eqb (r .kind) beginKind) (λ e. rw e (operation-bytes (r .op) (fits .op) i)) (λ e. rw e (omega arith))
+record-bytes r fits (suc (suc (suc (suc i)))) = by (isBegin (r .kind)) (λ e. rw e (operation-bytes (r .op) (fits .op) i)) (λ e. rw e (omega arith))
 
 -- a lawful record is written where it has room, and read back
 pub record-is-written : RecordWritten

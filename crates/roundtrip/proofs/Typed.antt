@@ -9,11 +9,11 @@ use denote.Array.{each}
 use denote.Shadow.{shadow}
 use denote.Struct.Field.{u32-field}
 use Rattle.model.specs.declared.Receive.{Receive}
-use Rattle.model.specs.declared.Receive.the-variants.{Absent, Open, Closed}
+use Rattle.model.specs.declared.Receive.the-variants.{Absent, Open, Closed, OneOf}
 use Rattle.model.specs.declared.Operation.{Operation}
 use Rattle.model.specs.declared.Record.{Record}
 use Rattle.model.specs.Operations.{receiveTime}
-use Rattle.model.specs.Encoding.{partnerOf}
+use Rattle.model.specs.Encoding.{partnerOf, setOf}
 use Rattle.model.proofs.Receive.{the-row as receiveRow}
 use Rattle.model.proofs.Operation.{the-row as operationRow}
 use Rattle.model.proofs.Record.{the-row as recordRow}
@@ -26,26 +26,28 @@ words-typed [] us e = nil-under _ (omega arith)
 words-typed (a ∷ l) [] e = absurd e
 words-typed (a ∷ l) (u ∷ us) e = cons-under _ a l (e .0 .1) (words-typed l us (e .1))
 
--- the two bytes of a receive part
-receive-typed : (w : Receive) (vs : List Val) → shadow (receiveRow .own w vs) → (partnerOf w < 256) × (receiveTime w < 256)
-receive-typed Absent vs g = (omega arith, omega arith)
-receive-typed (Open w) vs g = let wait = g .1 .1 .1 .1 .0 in (wait .1 .1 .1 .0 .1, wait .1 .1 .0 .1)
-receive-typed (Closed w) vs g = let wait = g .1 .1 .1 .1 .0 in (wait .1 .1 .1 .0 .1, wait .1 .1 .0 .1)
+-- the numbers of a receive part: a partner, a set, a time code
+receive-typed : (w : Receive) (vs : List Val) → shadow (receiveRow .own w vs) → (partnerOf w < 256) × (setOf w < 0x1_0000_0000) × (receiveTime w < 256)
+receive-typed Absent vs g = (omega arith, omega arith, omega arith)
+receive-typed (Open w) vs g = let wait = g .1 .1 .1 .1 .0 in (wait .1 .1 .1 .0 .1, omega arith, wait .1 .1 .0 .1)
+receive-typed (Closed w) vs g = let wait = g .1 .1 .1 .1 .0 in (wait .1 .1 .1 .0 .1, omega arith, wait .1 .1 .0 .1)
+receive-typed (OneOf time set) vs g = let numbers = g .1 .1 .1 .1 in (omega arith, numbers .1 .0 .1, numbers .0 .1)
 
 -- the fields of an operation
 operation-typed : (o : Operation) (vs : List Val) → shadow (operationRow .own o vs) → FitsOperation o
 operation-typed o vs g =
     let send = g .1 .1 .0 .1 .1 in
     let words = send .1 .1 .1 .1 .0 in
-    let receive = receive-typed (o .receive) _ (g .1 .1 .1 .0) in
+    let (partner, set, wait) = receive-typed (o .receive) _ (g .1 .1 .1 .0) in
     record {
       target = send .1 .0 .1;
       count = send .1 .1 .0 .1;
       time = send .1 .1 .1 .0 .1;
       eight = simp length-map at (words .1 .0 .1);
       words = words-typed (o .send .words) _ (words .1 .1);
-      partner = receive .0;
-      wait = receive .1;
+      partner = partner;
+      set = set;
+      wait = wait;
     }
 
 -- the fields of a record

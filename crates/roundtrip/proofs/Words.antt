@@ -1,11 +1,12 @@
 -- A word as four bytes, "low byte first", and back.
 use mathlib.Core.Path.{_≡_, refl, sym, ap, _∙_}
-use mathlib.Core.List.{List, [], _∷_, _++_, map, map-append}
+use mathlib.Core.List.{List, [], _∷_, _++_, map, map-append, append-assoc, append-nil}
 use Prim.Native.Nat.{ℕ, zero, suc, _+_, _*_, _/_, _%_, _≤_, _<_}
 use native.Mathlib.Omega.{arith}
 use native.Mathlib.Nat.{div-div-eq-div-mul}
 use lib.ListN.{length, getD, take, drop, length-drop}
-use lib.Seq.{getD-drop, drop-append-add, drop-drop, take-all, take-add}
+use Rattle.laws.proofs.Schedule.{words-length}
+use lib.Seq.{drop-append-seam, getD-drop, drop-append-add, drop-drop, take-all, take-add}
 use Rattle.model.specs.Lists.{concat, upTo}
 use Rattle.model.specs.RecordBytes.{byte, wordAt}
 use Rattle.model.specs.Encoding.{wordBytes}
@@ -38,7 +39,7 @@ word-written a b c d i j k l =
     rw (e0, e1, e2, e3) refl
 
 -- the bytes of a word are bytes
-word-bytes : (word : ℕ) → Bytes (wordBytes word)
+pub word-bytes : (word : ℕ) → Bytes (wordBytes word)
 unfolding wordBytes
 word-bytes word zero = omega arith
 word-bytes word (suc zero) = omega arith
@@ -64,13 +65,13 @@ unfolding wordBytes
 past-word word n rest = drop-append-add (wordBytes word) rest n
 
 -- past i words comes the i-th
-words-past : (words : List ℕ) (i : ℕ) → i < length words → drop (4 * i) (concat (map wordBytes words)) ≡ wordBytes (getD words i 0) ++ concat (map wordBytes (drop (suc i) words))
+words-past : (words rest : List ℕ) (i : ℕ) → i < length words → drop (4 * i) (concat (map wordBytes words) ++ rest) ≡ wordBytes (getD words i 0) ++ (concat (map wordBytes (drop (suc i) words)) ++ rest)
 unfolding concat
-words-past [] i l = absurd (omega arith)
-words-past (w ∷ words) zero l = refl
-words-past (w ∷ words) (suc i) l =
+words-past [] rest i l = absurd (omega arith)
+words-past (w ∷ words) rest zero l = append-assoc (wordBytes w) (concat (map wordBytes words)) rest
+words-past (w ∷ words) rest (suc i) l =
     let e : 4 * suc i ≡ 4 + 4 * i = omega arith in
-    rw e (past-word w (4 * i) (concat (map wordBytes words)) ∙ words-past words i (omega arith))
+    rw (e, append-assoc (wordBytes w) (concat (map wordBytes words)) rest) (past-word w (4 * i) (concat (map wordBytes words) ++ rest) ∙ words-past words rest i (omega arith))
 
 -- the bytes of words are bytes
 pub words-bytes : (words : List ℕ) → Bytes (concat (map wordBytes words))
@@ -79,15 +80,25 @@ words-bytes [] = nil-under 256 (omega arith)
 words-bytes (w ∷ words) = append-under 256 (wordBytes w) (concat (map wordBytes words)) (word-bytes w) (words-bytes words)
 
 -- words that were written past ten bytes are read
-pub words-read : (head words : List ℕ) (k : ℕ) → length head ≡ 10 → length words ≡ k → AllUnder 0x1_0000_0000 words → upTo k (wordAt (head ++ concat (map wordBytes words))) ≡ words
-words-read head words k ten long u = sym (take-up-to words 0 k (wordAt bytes) (omega arith) (λ i l. sym (read i (omega arith)))) ∙ take-all k words (omega arith)
-  where
-    bytes : List ℕ
-    bytes = head ++ concat (map wordBytes words)
+module _ (head words rest : List ℕ) (ten : length head ≡ 10) where
+  abbrev written : List ℕ
+  written = head ++ (concat (map wordBytes words) ++ rest)
 
-    read : (i : ℕ) → i < length words → wordAt bytes i ≡ getD words i 0
-    read i l = word-place bytes i ∙ ap firstWord (ap (λ (n : ℕ). drop (n + 4 * i) bytes) (sym ten) ∙ drop-append-add head (concat (map wordBytes words)) (4 * i) ∙ words-past words i l)
-        ∙ word-read (getD words i 0) (concat (map wordBytes (drop (suc i) words))) (u i)
+  -- one of them
+  word-of : (i : ℕ) → i < length words → getD words i 0 < 0x1_0000_0000 → wordAt written i ≡ getD words i 0
+  word-of i l u = word-place written i ∙ ap firstWord (ap (λ (n : ℕ). drop (n + 4 * i) written) (sym ten) ∙ drop-append-add head (concat (map wordBytes words) ++ rest) (4 * i) ∙ words-past words rest i l)
+      ∙ word-read (getD words i 0) (concat (map wordBytes (drop (suc i) words)) ++ rest) u
+
+  -- all of them
+  pub words-read : (k : ℕ) → length words ≡ k → AllUnder 0x1_0000_0000 words → upTo k (wordAt written) ≡ words
+  words-read k long u = sym (take-up-to words 0 k (wordAt written) (omega arith) (λ i l. sym (word-of i (omega arith) (u i)))) ∙ take-all k words (omega arith)
+
+  -- the one behind them
+  pub word-behind : (word : ℕ) → rest ≡ wordBytes word → word < 0x1_0000_0000 → (k : ℕ) → length words ≡ k → wordAt written k ≡ word
+  word-behind word e u k long =
+      word-place written k ∙ ap firstWord (ap (λ (n : ℕ). drop (n + 4 * k) written) (sym ten) ∙ drop-append-add head (concat (map wordBytes words) ++ rest) (4 * k)
+      ∙ ap (λ (n : ℕ). drop n (concat (map wordBytes words) ++ rest)) (ap (λ (n : ℕ). 4 * n) (sym long) ∙ sym (words-length words)) ∙ drop-append-seam (concat (map wordBytes words)) rest ∙ e ∙ sym (append-nil (wordBytes word)))
+      ∙ word-read word [] u
 
 -- the first four bytes, one by one
 pub four-bytes : (bytes : List ℕ) → 4 ≤ length bytes → take 4 bytes ≡ byte bytes 0 ∷ byte bytes 1 ∷ byte bytes 2 ∷ byte bytes 3 ∷ []

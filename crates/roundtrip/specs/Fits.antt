@@ -6,7 +6,7 @@ use lib.ListN.{length, getD}
 use Rattle.model.specs.declared.Operation.{Operation}
 use Rattle.model.specs.declared.Record.{Record}
 use Rattle.model.specs.Operations.{receiveTime}
-use Rattle.model.specs.Encoding.{partnerOf}
+use Rattle.model.specs.Encoding.{partnerOf, setOf}
 
 -- every number of a list is below a bound; past the list's end there is 0
 abbrev pub AllUnder : ℕ → List ℕ → Type 0
@@ -24,6 +24,7 @@ pub record FitsOperation (o : Operation) : Type 0 where
   pub eight : length (o .send .words) ≡ 8
   pub words : AllUnder 0x1_0000_0000 (o .send .words)
   pub partner : partnerOf (o .receive) < 256
+  pub set : setOf (o .receive) < 0x1_0000_0000
   pub wait : receiveTime (o .receive) < 256
 
 -- the fields of a record: two bytes and an operation

@@ -1,3 +1,4 @@
 pub mod Compared
 pub mod Numbers
+pub mod Pieces
 pub mod Runs

@@ -6,7 +6,7 @@ use Prim.Native.Nat.{ℕ, suc, _-_, _≤_, _<_, min}
 use lib.Dec.{eqb}
 use lib.ListN.{length, take, drop, getD}
 use Rattle.language.specs.Runs.{each, unbroken, lastLine}
-use Rattle.language.specs.Words.{newline, lines, withoutReturn, isBlank, words, isNumber, value}
+use Rattle.language.specs.Words.{newline, comma, lines, withoutReturn, isBlank, words, isNumber, value}
 
 -- the bytes from one place up to another
 abbrev pub between : ℕ → ℕ → List ℕ → List ℕ
@@ -27,6 +27,10 @@ pub record Run (test : ℕ → Bool) (bytes : List ℕ) (from stop : ℕ) : Type
 -- a byte of a word
 abbrev pub ofWord : ℕ → Bool
 ofWord byte = not (isBlank byte)
+
+-- a byte of a piece of a word
+abbrev pub ofPiece : ℕ → Bool
+ofPiece byte = not (eqb byte comma)
 
 -- a byte of a line
 abbrev pub ofLine : ℕ → Bool

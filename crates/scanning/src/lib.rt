@@ -3,13 +3,16 @@ ghost use mathlib.Core.Path.{_≡_};
 ghost use mathlib.Core.Bool.{true};
 ghost use Prim.Native.Nat.{_*_, _+_, _-_, _≤_, min};
 ghost use lib.ListN.{length};
-ghost use Rattle.language.specs.Words.{isBlank, isDigit, sameWord};
-ghost use Rattle.scanning.specs.Scanned.{Run, Found, NumberRead, LineEnd, Shortened, ofWord, cap};
+ghost use Rattle.language.specs.Words.{isBlank, isDigit, sameWord, hasComma};
+ghost use Rattle.scanning.specs.Scanned.{Run, Found, NumberRead, LineEnd, Shortened, ofWord, ofPiece, cap};
 
 // What stands between two words.
 const SPACE: u8 = b' ';
 
 const TAB: u8 = b'\t';
+
+// What stands between two pieces of a word.
+const COMMA: u8 = b',';
 
 // What ends a line, and what may stand before that.
 const NEWLINE: u8 = b'\n';
@@ -101,6 +104,28 @@ pub fn is_word(word: &[u8], name: &[u8]) -> bool
         i += 1;
     }
     true
+}
+
+// The place of the first comma from a place on, or the end.
+pub fn piece_end(word: &[u8], from: usize) -> usize
+    requires { ⌜ from ≤ length (now word) ⌝ }
+    ensures { λ r. ⌜ Run ofPiece (now (word .entry)) from r ⌝ }
+{
+    let mut i = from;
+    while i < word.len() {
+        if word[i] == COMMA {
+            return i;
+        }
+        i += 1;
+    }
+    i
+}
+
+// Whether a word has a comma.
+pub fn has_comma(word: &[u8]) -> bool
+    ensures { λ r. ⌜ r ≡ hasComma (now (word .entry)) ⌝ }
+{
+    piece_end(word, 0) < word.len()
 }
 
 // Whether a byte is a digit.

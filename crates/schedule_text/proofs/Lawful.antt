@@ -13,11 +13,13 @@ use Rattle.model.specs.declared.Answer.{Answer}
 use Rattle.model.specs.declared.Answer.the-variants.{Refused}
 use Rattle.model.specs.declared.Operation.{Operation}
 use Rattle.model.specs.declared.Record.{Record}
-use Rattle.model.specs.RecordBytes.{beginKind}
+use Rattle.model.specs.Operations.{namesSet}
+use Rattle.model.specs.RecordBytes.{longestRecord, isBegin}
 use Rattle.model.specs.Answers.{said, accepted, refused, replied}
 use Rattle.model.specs.Refusals.{unless}
 use Rattle.model.specs.Encoding.{encode, lawfulRecord, encodeRefusal, encodeAnswer, EncodePromise}
 use Rattle.model.proofs.Laws.{by}
+use Rattle.laws.proofs.Lists.{bit-small}
 use Rattle.roundtrip.proofs.Records.{operation-length}
 use Rattle.roundtrip.proofs.OneRecord.{record-is-written, written-was-lawful}
 use Rattle.language.specs.RecordText.{threadsOf, recordsAsked, lawfulRow}
@@ -34,27 +36,27 @@ module _ {first : Bool} {r : Record} {buffer after : List ℕ} {a : Answer} (pro
       sym (written-was-lawful first r buffer (rw none refl) .0)
 
   -- one that is refused, though there is room for the longest, is not
-  pub refused-unlawful : {g : ℕ} → a ≡ Refused g → length (r .op .send .words) ≡ 8 → 42 ≤ length buffer → false ≡ lawfulRecord first r
+  pub refused-unlawful : {g : ℕ} → a ≡ Refused g → length (r .op .send .words) ≡ 8 → longestRecord ≤ length buffer → false ≡ lawfulRecord first r
   refused-unlawful {g} e eight room =
       by (lawfulRecord first r)
       (λ rules. absurd (impossible g (ap said (sym e) ∙ promise .answers ∙ record-is-written first r buffer rules (fits eight room) .answers)))
       (λ not-lawful. sym not-lawful)
     where
-      fits : length (r .op .send .words) ≡ 8 → 42 ≤ length buffer → length (encode r) ≤ length buffer
-      fits eight room = unfold encode in by (eqb (r .kind) beginKind) (λ e. rw e (omega (arith, operation-length (r .op) eight))) (λ e. rw e (omega arith))
+      fits : length (r .op .send .words) ≡ 8 → longestRecord ≤ length buffer → length (encode r) ≤ length buffer
+      fits eight room = unfold encode in by (isBegin (r .kind)) (λ e. rw e (omega (arith, operation-length (r .op) eight, bit-small (namesSet (r .op .receive))))) (λ e. rw e (omega arith))
 
       impossible : (g : ℕ) → refused g ≡ replied accepted → ⊥
       impossible g e = let z : _≡_ {A = ℕ} 0 1 = cc in omega arith
 
 -- ---- the records of a line
-module _ (first : Bool) (kind : ℕ) (operation : Operation) (threads : List ℕ) where
+module _ (first : Bool) (row : ℕ) (operation : Operation) (threads : List ℕ) where
   -- those from place i on are lawful
   unfoldable pub lawfulFrom : ℕ → Bool
-  lawfulFrom i = lawfulRow (first && eqb i 0) (map (recordFor kind operation) (drop i threads))
+  lawfulFrom i = lawfulRow (first && eqb i 0) (map (recordFor row operation) (drop i threads))
 
   -- the record at a place
   abbrev recordAt : ℕ → Record
-  recordAt i = recordFor kind operation (getD threads i 0)
+  recordAt i = recordFor row operation (getD threads i 0)
 
   -- past the last there is none
   pub all-lawful : (i : ℕ) → length threads ≤ i → lawfulFrom i ≡ true
@@ -75,6 +77,6 @@ module _ (first : Bool) (kind : ℕ) (operation : Operation) (threads : List ℕ
   one-unlawful i inside breaks = rw (drop-cons threads i 0 inside, breaks) refl
 
 -- those from the first on are all
-pub from-first : (first : Bool) (kind : ℕ) (operation : Operation) (numbers : List ℕ) → lawfulRow first (recordsAsked kind numbers operation) ≡ lawfulFrom first kind operation (threadsOf kind numbers) 0
+pub from-first : (first : Bool) (row : ℕ) (operation : Operation) (numbers : List ℕ) → lawfulRow first (recordsAsked row numbers operation) ≡ lawfulFrom first row operation (threadsOf row numbers) 0
 unfolding lawfulFrom recordsAsked
-from-first first kind operation numbers = rw (and-true first) refl
+from-first first row operation numbers = rw (and-true first) refl

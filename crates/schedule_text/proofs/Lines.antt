@@ -27,10 +27,10 @@ abbrev comesTo : Bool → Command → Step
 comesTo first c = stepOf first (recordsOf first c)
 
 -- the next record is the first where there was none before it
-first-after : (first : Bool) (kind : ℕ) (operation : Operation) (threads : List ℕ) → (first && eqb (length threads) 0) ≡ firstAfter first (some (map (recordFor kind operation) threads))
+first-after : (first : Bool) (row : ℕ) (operation : Operation) (threads : List ℕ) → (first && eqb (length threads) 0) ≡ firstAfter first (some (map (recordFor row operation) threads))
 unfolding firstAfter
-first-after first kind operation [] = and-true first
-first-after first kind operation (thread ∷ threads) = rw (ne-eqb (suc (length threads)) 0 (λ e. omega arith)) (and-false first)
+first-after first row operation [] = and-true first
+first-after first row operation (thread ∷ threads) = rw (ne-eqb (suc (length threads)) 0 (λ e. omega arith)) (and-false first)
 
 module _ {line numbers : List ℕ} {r : Parsed} (p : Parses line numbers (commandOf line) r) where
   -- ---- a line without a row

@@ -2,6 +2,7 @@
 ghost use mathlib.Core.Path.{_≡_};
 ghost use Prim.Native.Nat.{_+_, _≤_};
 ghost use lib.ListN.{length};
+ghost use Rattle.model.specs.RecordBytes.{longestRecord};
 ghost use Rattle.model.specs.Encoding.{lawfulRecord};
 ghost use Rattle.roundtrip.specs.Fits.{Bytes};
 ghost use Rattle.language.specs.Commands.{commandOf};
@@ -9,6 +10,7 @@ ghost use Rattle.language.specs.RecordText.{threadsOf, recordsAsked, lawfulRow,
 ghost use Rattle.commands.specs.Standing.{lineRoom};
 ghost use Rattle.schedule_text.specs.Steps.{stepOf};
 use crate::asked::how_many;
+use crate::asked::kind_asked;
 use crate::asked::record_at;
 use commands::NOTHING;
 use commands::TICK_ROW;
@@ -20,7 +22,7 @@ use line_input::fetch_line;
 use model::Answer;
 use model::Operation;
 use model::Record;
-use reading::BEGIN_BYTES;
+use reading::LONGEST;
 use reading::record_length;
 use replies::NOT_RECORD;
 use replies::TABLE_FIRST;
@@ -53,11 +55,11 @@ fn say_first(n: u64, reason: u8, line: &[u8]) {
 
 // Writes out what is gathered where a record more might not fit; answers how many bytes are still gathered.
 fn with_room(filled: usize, out: &[u8]) -> usize
-    requires { ⌜ 42 ≤ length (now out) ⌝ }
+    requires { ⌜ longestRecord ≤ length (now out) ⌝ }
     requires { ⌜ filled ≤ length (now out) ⌝ }
-    ensures { λ r. ⌜ r + 42 ≤ length (now (out .entry)) ⌝ }
+    ensures { λ r. ⌜ r + longestRecord ≤ length (now (out .entry)) ⌝ }
 {
-    if BEGIN_BYTES <= out.len() - filled {
+    if LONGEST <= out.len() - filled {
         return filled;
     }
     io::write_all(STDOUT_FILENO, &out[0..filled]);
@@ -66,7 +68,7 @@ fn with_room(filled: usize, out: &[u8]) -> usize
 
 // Writes a record over the first bytes; answers whether it is lawful.
 fn put_lawful(first: bool, item: Record, out: &mut [u8]) -> bool
-    requires { ⌜ 42 ≤ length (now out) ⌝ }
+    requires { ⌜ longestRecord ≤ length (now out) ⌝ }
     ensures { λ r. ⌜ r ≡ lawfulRecord first item ⌝ }
 {
     let answer = write(first, item, out);
@@ -77,18 +79,19 @@ fn put_lawful(first: bool, item: Record, out: &mut [u8]) -> bool
 }
 
 // Writes the records of a line out, gathered in a buffer; answers whether they are lawful.
-fn write_records(first: bool, kind: u8, op: Operation, numbers: &[u32], out: &mut [u8]) -> bool
-    requires { ⌜ Bytes (threadsOf kind (now numbers)) ⌝ }
-    requires { ⌜ 42 ≤ length (now out) ⌝ }
-    ensures { λ r. ⌜ r ≡ lawfulRow first (recordsAsked kind (now (numbers .entry)) op) ⌝ }
+fn write_records(first: bool, row: u8, op: Operation, numbers: &[u32], out: &mut [u8]) -> bool
+    requires { ⌜ Bytes (threadsOf row (now numbers)) ⌝ }
+    requires { ⌜ longestRecord ≤ length (now out) ⌝ }
+    ensures { λ r. ⌜ r ≡ lawfulRow first (recordsAsked row (now (numbers .entry)) op) ⌝ }
 {
-    let count = how_many(kind, numbers);
+    let count = how_many(row, numbers);
+    let kind = kind_asked(row, op);
     let size = record_length(kind);
     let mut filled: usize = 0;
     let mut i: usize = 0;
     while i < count {
         filled = with_room(filled, out);
-        let item = record_at(kind, op, numbers, i);
+        let item = record_at(row, op, numbers, i);
         if !put_lawful(first & (i == 0), item, &mut out[filled..]) {
             return false;
         }
@@ -102,7 +105,7 @@ fn write_records(first: bool, kind: u8, op: Operation, numbers: &[u32], out: &mu
 // Writes the records of line n out, told whether they are the first; or says why it has none.
 fn write_line(n: u64, line: &[u8], first: bool, numbers: &mut [u32], out: &mut [u8]) -> Step
     requires { ⌜ lineRoom ≤ length (now numbers) ⌝ }
-    requires { ⌜ 42 ≤ length (now out) ⌝ }
+    requires { ⌜ longestRecord ≤ length (now out) ⌝ }
     ensures { λ r. ⌜ r ≡ stepOf first (recordsOf first (commandOf (now (line .entry)))) ⌝ }
 {
     let parsed = command(line, numbers);
@@ -138,7 +141,7 @@ fn write_line(n: u64, line: &[u8], first: bool, numbers: &mut [u32], out: &mut [
 // Writes the records of the lines that a descriptor delivers out, through a buffer for lines, one for numbers and one for bytes.
 fn write_lines(input: i32, buffer: &mut [u8], numbers: &mut [u32], out: &mut [u8])
     requires { ⌜ lineRoom ≤ length (now numbers) ⌝ }
-    requires { ⌜ 42 ≤ length (now out) ⌝ }
+    requires { ⌜ longestRecord ≤ length (now out) ⌝ }
 {
     let mut feed = line_input::unread();
     let mut first = true;

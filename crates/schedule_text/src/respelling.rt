@@ -9,7 +9,7 @@ use commands::no_numbers;
 use model::Answer;
 use model::Operation;
 use model::Record;
-use reading::BEGIN_BYTES;
+use reading::LONGEST;
 use reading::record_length;
 use record_text::put_record;
 use writing::write;
@@ -33,17 +33,17 @@ fn same_front(a: &[u8], b: &[u8], n: usize) -> bool {
 }
 
 // A line of a schedule stands for one record, which is written as the first of these bytes.
-fn writes_one(first: bool, kind: u8, op: Operation, numbers: &[u32], bytes: &[u8]) -> bool
-    requires { ⌜ Bytes (threadsOf kind (now numbers)) ⌝ }
+fn writes_one(first: bool, row: u8, op: Operation, numbers: &[u32], bytes: &[u8]) -> bool
+    requires { ⌜ Bytes (threadsOf row (now numbers)) ⌝ }
 {
-    if how_many(kind, numbers) != 1 {
+    if how_many(row, numbers) != 1 {
         return false;
     }
-    let again = record_at(kind, op, numbers, 0);
-    let mut written = [0u8; BEGIN_BYTES];
+    let again = record_at(row, op, numbers, 0);
+    let mut written = [0u8; LONGEST];
     let answer = write(first, again, &mut written);
     if let Answer::Accepted = answer {
-        return same_front(&written, bytes, record_length(kind));
+        return same_front(&written, bytes, record_length(again.kind));
     }
     false
 }

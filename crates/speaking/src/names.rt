@@ -69,6 +69,22 @@ send cancelled
     put_entry(out, start, names, code_place(code))
 }
 
+// The refusal of a record that is unlawful or cut short, the last of document 01, and that of a set without members.
+const BAD_RECORD: u8 = 12;
+
+const EMPTY_SET: u8 = 15;
+
+// The place of a refusal in the list of what they mean; past its end for one that no schedule meets.
+fn refusal_place(number: u8) -> usize {
+    if number <= BAD_RECORD {
+        return number as usize;
+    }
+    if number == EMPTY_SET {
+        return 13;
+    }
+    14
+}
+
 // What a refusal means, by its number.
 fn put_meaning(out: &mut [u8], start: usize, number: u8) -> usize {
     let meanings = b"\
@@ -85,9 +101,10 @@ more than 8 words
 no such time code
 wrong store or records
 no lawful record
+an empty set
 ";
     let opened = put_text(out, start, b" (");
-    let told = put_entry(out, opened, meanings, number as usize);
+    let told = put_entry(out, opened, meanings, refusal_place(number));
     put_text(out, told, b")")
 }
 

@@ -9,19 +9,18 @@ use lib.Seq.{ext-getD}
 use lib.Dec.{eqb, leb}
 use borrow.Author.Tests.{eqb-true, le-ltb, leb-true, leb-false}
 use Rattle.model.specs.declared.Receive.{Receive}
-use Rattle.model.specs.declared.Receive.the-variants.{Absent, Open, Closed}
+use Rattle.model.specs.declared.Receive.the-variants.{Absent, Open, Closed, OneOf}
 use Rattle.model.specs.declared.Operation.{Operation}
 use Rattle.model.specs.Lists.{bit}
 use Rattle.model.specs.Operations.{hasReceive, openPart}
 use Rattle.model.specs.Threads.{noOperation}
 use Rattle.model.specs.RecordBytes.{sendBit, openBit, receiveBit, wordAt, lawfulBegin}
 use Rattle.model.specs.Encoding.{partnerOf, partsOf, operationBytes}
-use Rattle.model.specs.Decoding.{operationOf}
 use Rattle.model.proofs.Laws.{by, and-left, and-right, implies-read, all-of-read, all-below-read}
 use Rattle.laws.proofs.Below.{read-up-to}
 use Rattle.roundtrip.specs.Fits.{FitsOperation}
 use Rattle.roundtrip.proofs.Lists.{replicate-under}
-use Rattle.roundtrip.proofs.Operations.{operation-read}
+use Rattle.roundtrip.proofs.Operations.{sends-read, words-back}
 use Rattle.spelling.proofs.Parts.{Tidy}
 
 -- the open bit of an open receive part
@@ -33,6 +32,8 @@ open-bit true (Open wait) e = refl
 open-bit false (Open wait) e = refl
 open-bit true (Closed wait) e = cc
 open-bit false (Closed wait) e = cc
+open-bit true (OneOf time set) e = cc
+open-bit false (OneOf time set) e = cc
 
 module _ (a b c d : ℕ) (o : Operation) (fits : FitsOperation o) (rules : lawfulBegin (a ∷ b ∷ c ∷ d ∷ operationBytes o) ≡ true) where
   -- the bytes of the begin
@@ -41,13 +42,13 @@ module _ (a b c d : ℕ) (o : Operation) (fits : FitsOperation o) (rules : lawfu
 
   -- its send bit
   sends : sendBit (partsOf o) ≡ o .send .present
-  unfolding operationOf operationBytes
-  sends = ap (λ (p : Operation). p .send .present) (operation-read a b c d o fits)
+  unfolding partsOf
+  sends = sends-read (o .send .present) (o .receive)
 
   -- its words
   word-here : (i : ℕ) → i < 8 → wordAt bytes i ≡ getD (o .send .words) i 0
-  unfolding operationOf
-  word-here i h = sym (read-up-to 8 (wordAt bytes) 0 i h) ∙ ap (λ (p : Operation). getD (p .send .words) i 0) (operation-read a b c d o fits)
+  unfolding operationBytes
+  word-here i h = sym (read-up-to 8 (wordAt bytes) 0 i h) ∙ ap (λ (l : List ℕ). getD l i 0) (words-back a b c d o fits)
 
   -- "words past the count, are 0"
   past-the-count : (i : ℕ) → o .send .count ≤ i → getD (o .send .words) i 0 ≡ 0

@@ -41,6 +41,11 @@ pub byte-read : (n : ℕ) (numbers : List ℕ) (left : List (List ℕ)) → n < 
 unfolding takesSign largest least
 byte-read n numbers left small = number-read (code "b") refl n numbers left (omega arith) (omega arith)
 
+-- so is a number of 32 bits
+pub wide-read : (n : ℕ) (numbers : List ℕ) (left : List (List ℕ)) → n < 0x1_0000_0000 → readNumber (code "w") (reached numbers (decimal n ∷ left)) ≡ reached (numbers ++ (n ∷ [])) left
+unfolding takesSign largest least
+wide-read n numbers left small = number-read (code "w") refl n numbers left (omega arith) (omega arith)
+
 -- a word of 32 bits is not wrong
 pub word-not-wrong : (n : ℕ) → n < 0x1_0000_0000 → wrongNumber (code "w") (decimal n) ≡ 0
 unfolding takesSign largest least

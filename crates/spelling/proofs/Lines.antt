@@ -8,12 +8,12 @@ use lib.ListN.{length, getD, length-append}
 use lib.Dec.{eqb}
 use Rattle.model.specs.declared.SendPart.{SendPart}
 use Rattle.model.specs.declared.Receive.{Receive}
-use Rattle.model.specs.declared.Receive.the-variants.{Absent, Open, Closed}
+use Rattle.model.specs.declared.Receive.the-variants.{Absent, Open, Closed, OneOf}
 use Rattle.model.specs.declared.Operation.{Operation}
 use Rattle.model.specs.declared.Record.{Record}
 use Rattle.model.specs.Operations.{receiveTime}
-use Rattle.model.specs.Encoding.{partnerOf}
-use Rattle.model.specs.RecordBytes.{tableKind, beginKind, stepKind, cancelKind}
+use Rattle.model.specs.Encoding.{partnerOf, setOf}
+use Rattle.model.specs.RecordBytes.{tableKind, isBegin, stepKind, cancelKind}
 use Rattle.model.specs.Lists.{upTo}
 use Rattle.model.specs.Bondtrace.{ascii, decimal, spaced}
 use Rattle.model.proofs.Laws.{length-up-to}
@@ -38,7 +38,7 @@ pub line-cases : (P : List ℕ → Type 0) (r : Record) → ((name : List ℕ) �
 unfolding recordLine
 line-cases P r named begun alone =
     chosen P (eqb (r .kind) tableKind) _ _ (named (ascii "table") (unfold isWord each ascii upTo in refl) (unfold ascii upTo in omega arith))
-    (chosen P (eqb (r .kind) beginKind) _ _ begun
+    (chosen P (isBegin (r .kind)) _ _ begun
     (chosen P (eqb (r .kind) stepKind) _ _ (named (ascii "step") (unfold isWord each ascii upTo in refl) (unfold ascii upTo in omega arith))
     (chosen P (eqb (r .kind) cancelKind) _ _ (named (ascii "cancel") (unfold isWord each ascii upTo in refl) (unfold ascii upTo in omega arith)) alone)))
 
@@ -51,11 +51,11 @@ module _ (r : Record) where
 
   module _ (no-table : eqb (r .kind) tableKind ≡ false) where
     -- a begin
-    pub line-of-begin : eqb (r .kind) beginKind ≡ true → recordLine r ≡ ascii "begin" ++ spaced (r .thread ∷ []) ++ sendText (r .op .send) ++ receiveText (r .op .receive)
+    pub line-of-begin : isBegin (r .kind) ≡ true → recordLine r ≡ ascii "begin" ++ spaced (r .thread ∷ []) ++ sendText (r .op .send) ++ receiveText (r .op .receive)
     unfolding recordLine
     line-of-begin e = rw (no-table, e) refl
 
-    module _ (no-begin : eqb (r .kind) beginKind ≡ false) where
+    module _ (no-begin : isBegin (r .kind) ≡ false) where
       -- a step
       pub line-of-step : eqb (r .kind) stepKind ≡ true → recordLine r ≡ ascii "step" ++ spaced (r .thread ∷ [])
       unfolding recordLine
@@ -93,6 +93,7 @@ unfolding receiveText receiveWords apart ascii upTo
 receive-apart Absent = refl
 receive-apart (Open wait) = ap (λ (l : List ℕ). ascii " receive any" ++ l) (spaced-apart (wait .time ∷ []))
 receive-apart (Closed wait) = ap (λ (l : List ℕ). ascii " receive" ++ l) (spaced-apart (wait .partner ∷ wait .time ∷ []))
+receive-apart (OneOf time set) = ap (λ (l : List ℕ). ascii " receive set" ++ l) (spaced-apart (set ∷ time ∷ []))
 
 -- they are words
 send-words : (send : SendPart) → areWords (sendWords send) ≡ true
@@ -112,6 +113,7 @@ unfolding receiveWords areWords isWord each ascii upTo
 receive-words Absent = refl
 receive-words (Open wait) = words-decimal (wait .time ∷ [])
 receive-words (Closed wait) = words-decimal (wait .partner ∷ wait .time ∷ [])
+receive-words (OneOf time set) = words-decimal (set ∷ time ∷ [])
 
 -- ---- lines
 -- a name and a thread
@@ -147,15 +149,16 @@ one-short : (n : ℕ) → n < 256 → length (spaced (n ∷ [])) ≤ 11
 one-short n small = numbers-short 1 (n ∷ []) (cons-under _ n [] (omega arith) (nil-under _ (omega arith))) (omega arith)
 
 -- two numbers
-two-short : (m n : ℕ) → m < 256 → n < 256 → length (spaced (m ∷ n ∷ [])) ≤ 22
+two-short : (m n : ℕ) → m < 0x1_0000_0000 → n < 256 → length (spaced (m ∷ n ∷ [])) ≤ 22
 two-short m n f g = numbers-short 2 (m ∷ n ∷ []) (cons-under _ m (n ∷ []) (omega arith) (cons-under _ n [] (omega arith) (nil-under _ (omega arith)))) (omega arith)
 
 -- a receive part
-receive-short : (receive : Receive) → partnerOf receive < 256 → receiveTime receive < 256 → length (receiveText receive) ≤ 34
+receive-short : (receive : Receive) → partnerOf receive < 256 → setOf receive < 0x1_0000_0000 → receiveTime receive < 256 → length (receiveText receive) ≤ 34
 unfolding receiveText ascii upTo
-receive-short Absent p t = omega arith
-receive-short (Open wait) p t = omega (arith, length-append (ascii " receive any") (spaced (wait .time ∷ [])), one-short (wait .time) t)
-receive-short (Closed wait) p t = omega (arith, length-append (ascii " receive") (spaced (wait .partner ∷ wait .time ∷ [])), two-short (wait .partner) (wait .time) p t)
+receive-short Absent p m t = omega arith
+receive-short (Open wait) p m t = omega (arith, length-append (ascii " receive any") (spaced (wait .time ∷ [])), one-short (wait .time) t)
+receive-short (Closed wait) p m t = omega (arith, length-append (ascii " receive") (spaced (wait .partner ∷ wait .time ∷ [])), two-short (wait .partner) (wait .time) (omega arith) t)
+receive-short (OneOf time set) p m t = omega (arith, length-append (ascii " receive set") (spaced (set ∷ time ∷ [])), two-short set time m t)
 
 -- a send part
 send-short : (o : Operation) → FitsOperation o → length (sendText (o .send)) ≤ 2832
@@ -187,7 +190,7 @@ line-short r fits = line-cases (λ line. length line ≤ longestLine) r named be
 
     begun : length (ascii "begin" ++ thread ++ sendText (r .op .send) ++ receiveText (r .op .receive)) ≤ longestLine
     begun = unfold ascii upTo in simp length-append
-        (omega (arith, one-short (r .thread) (fits .thread), send-short (r .op) (fits .op), receive-short (r .op .receive) (fits .op .partner) (fits .op .wait)))
+        (omega (arith, one-short (r .thread) (fits .thread), send-short (r .op) (fits .op), receive-short (r .op .receive) (fits .op .partner) (fits .op .set) (fits .op .wait)))
 
     alone : length (ascii "tick") ≤ longestLine
     alone = unfold ascii upTo in omega arith

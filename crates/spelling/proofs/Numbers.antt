@@ -10,7 +10,7 @@ use Rattle.model.specs.Schedule.{isEmpty}
 use Rattle.model.specs.Lists.{concat, upTo}
 use Rattle.model.specs.Bondtrace.{ascii, digit, digits, decimal, spaced}
 use Rattle.model.proofs.Laws.{by, and-left, and-right, and-made}
-use Rattle.language.specs.Words.{sameWord, isDigit, allDigits, isNumber, grown, value}
+use Rattle.language.specs.Words.{sameWord, comma, hasComma, isDigit, allDigits, isNumber, grown, value}
 use Rattle.language.specs.Runs.{each}
 use Rattle.spelling.proofs.Texts.{isWord, areWords, apart}
 
@@ -94,6 +94,19 @@ pub spaced-apart : (numbers : List ℕ) → spaced numbers ≡ apart (map decima
 unfolding spaced concat apart ascii upTo
 spaced-apart [] = refl
 spaced-apart (n ∷ numbers) = ap (λ (l : List ℕ). 32 ∷ decimal n ++ l) (spaced-apart numbers)
+
+-- no digit is a comma
+digits-no-comma : (word : List ℕ) → allDigits word ≡ true → hasComma word ≡ false
+unfolding allDigits isDigit hasComma
+digits-no-comma [] e = refl
+digits-no-comma (byte ∷ word) e =
+    let large : 48 ≤ byte = leb-true 48 byte (and-left _ (leb byte 57) (and-left _ (allDigits word) e)) in
+    rw (ne-eqb byte comma (λ same. omega arith)) (digits-no-comma word (and-right (isDigit byte) (allDigits word) e))
+
+-- so a number's decimal has none
+pub decimal-no-comma : (n : ℕ) → hasComma (decimal n) ≡ false
+unfolding decimal
+decimal-no-comma n = digits-no-comma (decimal n) (all-digits (suc n) n)
 
 -- a number is no name that starts with a letter
 pub number-no-name : (word : List ℕ) (letter : ℕ) (name : List ℕ) → isNumber word ≡ true → 57 < letter → sameWord word (letter ∷ name) ≡ false

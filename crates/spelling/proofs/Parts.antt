@@ -9,11 +9,11 @@ use lib.ListN.{length, getD, set, replicate, length-set}
 use lib.Seq.{ext-getD, getD-set-same, getD-set-other}
 use Rattle.model.specs.declared.SendPart.{SendPart}
 use Rattle.model.specs.declared.Receive.{Receive}
-use Rattle.model.specs.declared.Receive.the-variants.{Absent, Open, Closed}
+use Rattle.model.specs.declared.Receive.the-variants.{Absent, Open, Closed, OneOf}
 use Rattle.model.specs.declared.Operation.{Operation}
 use Rattle.model.specs.Lists.{upTo}
 use Rattle.model.specs.Operations.{receiveTime, openPart}
-use Rattle.model.specs.Encoding.{partnerOf}
+use Rattle.model.specs.Encoding.{partnerOf, setOf}
 use Rattle.model.specs.Threads.{noOperation}
 use Rattle.model.specs.Refusals.{unless}
 use Rattle.model.specs.Bondtrace.{ascii, decimal}
@@ -21,11 +21,11 @@ use Rattle.model.proofs.Laws.{by, same?}
 use Rattle.laws.proofs.Lists.{cond-true, cond-false}
 use Rattle.roundtrip.proofs.Lists.{up-to-under, replicate-under}
 use Rattle.language.specs.Words.{sameWord}
-use Rattle.language.specs.Commands.{reached, readNumbers, Spelled, spelled, startsWith, closed, readWait, readReceive, withWord, readWords, emptySend, readSend, readParts}
+use Rattle.language.specs.Commands.{reached, readNumbers, Spelled, spelled, startsWith, closed, readOpen, readClosed, readOneOf, readPartners, readWait, readReceive, withWord, readWords, emptySend, readSend, readParts}
 use Rattle.language.specs.RecordText.{sentWords}
 use Rattle.roundtrip.specs.Fits.{AllUnder, FitsOperation}
-use Rattle.spelling.proofs.Numbers.{value-decimal, number-decimal, number-no-name}
-use Rattle.spelling.proofs.Letters.{byte-read, word-not-wrong}
+use Rattle.spelling.proofs.Numbers.{value-decimal, number-decimal, number-no-name, decimal-no-comma}
+use Rattle.spelling.proofs.Letters.{byte-read, wide-read, word-not-wrong}
 
 -- ---- a receive part
 -- its words
@@ -33,6 +33,7 @@ unfoldable pub receiveWords : Receive → List (List ℕ)
 receiveWords Absent = []
 receiveWords (Open wait) = ascii "receive" ∷ ascii "any" ∷ decimal (wait .time) ∷ []
 receiveWords (Closed wait) = ascii "receive" ∷ decimal (wait .partner) ∷ decimal (wait .time) ∷ []
+receiveWords (OneOf time set) = ascii "receive" ∷ ascii "set" ∷ decimal set ∷ decimal time ∷ []
 
 -- two bytes are read
 two-bytes : (m n : ℕ) (left : List (List ℕ)) → m < 256 → n < 256 → readNumbers (ascii "bb") (reached [] (decimal m ∷ decimal n ∷ left)) ≡ reached (m ∷ n ∷ []) left
@@ -49,24 +50,34 @@ not-any : (n : ℕ) (left : List (List ℕ)) → startsWith (ascii "any") (decim
 unfolding startsWith ascii upTo
 not-any n left = number-no-name (decimal n) (code "a") (code "n" ∷ code "y" ∷ []) (number-decimal n) (omega arith)
 
+-- nor the word `set`
+not-set : (n : ℕ) (left : List (List ℕ)) → startsWith (ascii "set") (decimal n ∷ left) ≡ false
+unfolding startsWith ascii upTo
+not-set n left = number-no-name (decimal n) (code "s") (code "e" ∷ code "t" ∷ []) (number-decimal n) (omega arith)
+
 -- nor the word `receive`
 not-receive : (n : ℕ) → sameWord (decimal n) (ascii "receive") ≡ false
 unfolding ascii upTo
 not-receive n = number-no-name (decimal n) (code "r") (code "e" ∷ code "c" ∷ code "e" ∷ code "i" ∷ code "v" ∷ code "e" ∷ []) (number-decimal n) (omega arith)
 
 -- the words of a receive part are read as it
-receive-read : (send : SendPart) (receive : Receive) → partnerOf receive < 256 → receiveTime receive < 256 → (openPart receive ≡ true → partnerOf receive ≡ 0)
+receive-read : (send : SendPart) (receive : Receive) → partnerOf receive < 256 → setOf receive < 0x1_0000_0000 → receiveTime receive < 256 → (openPart receive ≡ true → partnerOf receive ≡ 0)
     → readReceive send (receiveWords receive) ≡ spelled (record { send = send; receive = receive })
 unfolding readReceive receiveWords sameWord ascii upTo
-receive-read send Absent p t o = refl
-receive-read send (Open wait) p t o = any-read
+receive-read send Absent p m t o = refl
+receive-read send (Open wait) p m t o = any-read
   where
     any-read : readWait send (ascii "any" ∷ decimal (wait .time) ∷ []) ≡ spelled (record { send = send; receive = Open wait })
-    any-read = unfold readWait startsWith closed in rw (one-byte (wait .time) [] t) (λ i. spelled (record { send = send; receive = Open (record { time = wait .time; partner = sym (o refl) i }) }))
-receive-read send (Closed wait) p t o = one-read
+    any-read = unfold readWait readOpen startsWith closed in rw (one-byte (wait .time) [] t) (λ i. spelled (record { send = send; receive = Open (record { time = wait .time; partner = sym (o refl) i }) }))
+receive-read send (Closed wait) p m t o = one-read
   where
     one-read : readWait send (decimal (wait .partner) ∷ decimal (wait .time) ∷ []) ≡ spelled (record { send = send; receive = Closed wait })
-    one-read = unfold readWait closed in rw (not-any (wait .partner) (decimal (wait .time) ∷ []), two-bytes (wait .partner) (wait .time) [] p t) refl
+    one-read = unfold readWait readPartners readClosed closed in
+        rw (not-any (wait .partner) (decimal (wait .time) ∷ []), not-set (wait .partner) (decimal (wait .time) ∷ []), decimal-no-comma (wait .partner), two-bytes (wait .partner) (wait .time) [] p t) refl
+receive-read send (OneOf time set) p m t o = set-read
+  where
+    set-read : readWait send (ascii "set" ∷ decimal set ∷ decimal time ∷ []) ≡ spelled (record { send = send; receive = OneOf time set })
+    set-read = unfold readWait readOneOf readNumbers startsWith closed in rw (wide-read set [] (decimal time ∷ []) m, byte-read time (set ∷ []) [] t) refl
 
 -- ---- the words of a send part
 -- a send part with words put into it one after the other
@@ -86,6 +97,7 @@ unfolding readWords receiveWords sameWord ascii upTo
 words-end send Absent = refl
 words-end send (Open wait) = refl
 words-end send (Closed wait) = refl
+words-end send (OneOf time set) = refl
 
 -- one word is read into a send part
 word-read : (word : ℕ) (send : SendPart) (left : List (List ℕ)) → word < 0x1_0000_0000 → readWords send (decimal word ∷ left) ≡ readWords (withWord word send) left
@@ -158,6 +170,7 @@ unfolding readParts startsWith receiveWords sameWord ascii upTo
 no-send-read Absent = refl
 no-send-read (Open wait) = refl
 no-send-read (Closed wait) = refl
+no-send-read (OneOf time set) = refl
 
 -- what a lawful begin says of its operation: nothing stands where the parts do not use it
 pub record Tidy (o : Operation) : Type 0 where
@@ -181,7 +194,7 @@ module _ (o : Operation) (fits : FitsOperation o) (tidy : Tidy o) where
   -- once a send part is read, the operation is
   operation-read : (send : SendPart) → send ≡ o .send → readReceive send (receiveWords (o .receive)) ≡ spelled o
   operation-read send e =
-      receive-read send (o .receive) (fits .partner) (fits .wait) (tidy .anyone) ∙ ap {B = Spelled} (λ (s : SendPart). spelled (record { send = s; receive = o .receive })) e
+      receive-read send (o .receive) (fits .partner) (fits .set) (fits .wait) (tidy .anyone) ∙ ap {B = Spelled} (λ (s : SendPart). spelled (record { send = s; receive = o .receive })) e
 
   -- an operation is read from its words
   pub parts-read : readParts (sendWords (o .send) ++ receiveWords (o .receive)) ≡ spelled o

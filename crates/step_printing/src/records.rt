@@ -2,6 +2,7 @@
 ghost use mathlib.Core.Path.{_≡_};
 ghost use Prim.Native.Nat.{_≤_, _<_};
 ghost use lib.ListN.{length};
+ghost use Rattle.model.specs.RecordBytes.{longestRecord};
 ghost use Rattle.record_input.specs.Places.{Within};
 use crate::answers;
 use crate::lines::print_thread;
@@ -35,7 +36,7 @@ fn print_threads(table: Table, store: &[u32]) {
 // The call that a record after the first asks for.
 fn call(table: Table, item: Record, store: &mut [u32]) -> Returned {
     let kind = item.kind;
-    if kind == reading::BEGIN {
+    if reading::is_begin(kind) {
         return engine::begin(table, item.thread, item.op, store);
     }
     if kind == reading::STEP {
@@ -99,7 +100,7 @@ fn follow_rest(
     spoken: bool,
 )
     requires { ⌜ Within (length (now buffer)) rest ⌝ }
-    requires { ⌜ (0 < size) × (size ≤ 42) ⌝ }
+    requires { ⌜ (0 < size) × (size ≤ longestRecord) ⌝ }
 {
     let mut table = made;
     let mut left = rest;

@@ -1,9 +1,11 @@
 // Functions on one thread: each returns what a definition of the model says.
 ghost use mathlib.Core.Path.{_≡_};
 ghost use mathlib.Core.Bool.{cond};
+ghost use Prim.Native.Nat.{_^_};
+ghost use lib.Dec.{leb};
 ghost use Rattle.model.specs.Codes.{isFailure, codeOnly};
 ghost use Rattle.model.specs.Times.{tickCount, fall};
-ghost use Rattle.model.specs.Operations.{hasReceive, receiveTime, openPart, closedOn, accepts, closedBeyond};
+ghost use Rattle.model.specs.Operations.{hasReceive, receiveTime, openPart, namesSet, member, closedOn, accepts, closedBeyond, emptySet};
 ghost use Rattle.model.specs.Threads.{noFlags, noOperation, ended, marked, withoutReceive};
 ghost use Rattle.model.specs.Queues.{ready};
 ghost use Rattle.model.specs.Calls.{ticked};
@@ -135,6 +137,7 @@ pub fn has_receive(receive: Receive) -> bool
         Receive::Absent => false,
         Receive::Open(_) => true,
         Receive::Closed(_) => true,
+        Receive::OneOf(_, _) => true,
     }
 }
 
@@ -146,7 +149,31 @@ pub fn receive_time(receive: Receive) -> u8
         Receive::Absent => 0,
         Receive::Open(w) => w.time,
         Receive::Closed(w) => w.time,
+        Receive::OneOf(time, _) => time,
     }
+}
+
+// How many threads a set can have, one bit each.
+const SET_BITS: u8 = 32;
+
+// Thread s is a member of a set.
+pub fn is_member(set: u32, s: u8) -> bool
+    ensures { λ r. ⌜ r ≡ member set s ⌝ }
+{
+    if SET_BITS <= s {
+        return false;
+    }
+    (set >> s) % 2 == 1
+}
+
+// A set has a member from n on.
+fn has_beyond(set: u32, n: u8) -> bool
+    ensures { λ r. ⌜ r ≡ leb (2 ^ n) set ⌝ }
+{
+    if SET_BITS <= n {
+        return false;
+    }
+    0 < (set >> n)
 }
 
 // A receive part that is open, or closed on s.
@@ -157,6 +184,7 @@ pub fn accepts_from(receive: Receive, s: u8) -> bool
         Receive::Absent => false,
         Receive::Open(_) => true,
         Receive::Closed(w) => w.partner == s,
+        Receive::OneOf(_, set) => is_member(set, s),
     }
 }
 
@@ -168,6 +196,7 @@ pub fn is_open(receive: Receive) -> bool
         Receive::Absent => false,
         Receive::Open(_) => true,
         Receive::Closed(_) => false,
+        Receive::OneOf(_, _) => false,
     }
 }
 
@@ -179,6 +208,7 @@ pub fn closed_on(receive: Receive, s: u8) -> bool
         Receive::Absent => false,
         Receive::Open(_) => false,
         Receive::Closed(w) => w.partner == s,
+        Receive::OneOf(_, set) => is_member(set, s),
     }
 }
 
@@ -190,6 +220,31 @@ pub fn closed_beyond(n: u8, receive: Receive) -> bool
         Receive::Absent => false,
         Receive::Open(_) => false,
         Receive::Closed(w) => n <= w.partner,
+        Receive::OneOf(_, set) => has_beyond(set, n),
+    }
+}
+
+// A receive part that names a set.
+pub fn names_set(receive: Receive) -> bool
+    ensures { λ r. ⌜ r ≡ namesSet receive ⌝ }
+{
+    match receive {
+        Receive::Absent => false,
+        Receive::Open(_) => false,
+        Receive::Closed(_) => false,
+        Receive::OneOf(_, _) => true,
+    }
+}
+
+// A receive part that is closed on nobody.
+pub fn is_empty(receive: Receive) -> bool
+    ensures { λ r. ⌜ r ≡ emptySet receive ⌝ }
+{
+    match receive {
+        Receive::Absent => false,
+        Receive::Open(_) => false,
+        Receive::Closed(_) => false,
+        Receive::OneOf(_, set) => set == 0,
     }
 }
 

@@ -8,7 +8,7 @@ use reading::KIND;
 use reading::THREAD;
 
 // How many bytes a record is written into at most, and what stands in each before.
-const ALL: usize = 44;
+const ALL: usize = 48;
 
 const BYTE: u8 = 7;
 
@@ -41,7 +41,7 @@ fn print_numbers(bytes: &[u8]) {
 }
 
 // Prints what stands where a record was to be written.
-fn print_bytes(bytes: &[u8; 44]) {
+fn print_bytes(bytes: &[u8; ALL]) {
     print(b", bytes");
     print_numbers(bytes);
 }
@@ -103,7 +103,7 @@ fn try_write(case: &[u8; 10]) {
     };
     let first = cases::number(case, 0) == 1;
     let lent = numbers::lesser(cases::number(case, 1) as usize, ALL);
-    let mut bytes = [BYTE; 44];
+    let mut bytes = [BYTE; ALL];
     let answer = writing::write(first, item, &mut bytes[0..lent]);
     print_case(case, answer);
     print_bytes(&bytes);
@@ -142,7 +142,7 @@ fn write_records() {
     );
     let all = cases::records();
     let mut i: usize = 0;
-    while i < 18 {
+    while i < 27 {
         let case = all[i];
         try_write(&case);
         i += 1;

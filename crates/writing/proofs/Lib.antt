@@ -1,3 +1,4 @@
 pub mod Copies
 pub mod Promised
+pub mod Sets
 pub mod Words

@@ -1,20 +1,16 @@
--- Words put into the bytes of a begin one after the other, low byte first.
+-- Words put into the bytes of a begin one after the other, low byte first, and a set behind them.
 use mathlib.Core.Path.{_≡_, refl, sym, _∙_, subst}
 use mathlib.Core.List.{List, [], _∷_, _++_, map, append-nil, append-assoc}
 use Prim.Native.Nat.{ℕ, zero, suc, _+_, _*_, _/_, _%_, _≤_, _<_}
 use native.Mathlib.Numerals.{add-one, add-two, add-three}
 use native.Mathlib.Omega.{arith}
-use lib.ListN.{length, getD, take, drop, set, length-append, take-append-drop, drop-of-length-le}
+use lib.ListN.{length, getD, take, drop, set, length-append, take-append-drop, drop-of-length-le, replicate}
 use lib.Seq.{sets-eq, length-take-le, take-all, take-at, drop-append-add, drop-drop}
 use Rattle.model.specs.Lists.{concat}
 use Rattle.model.specs.Encoding.{wordBytes}
+use Rattle.laws.proofs.Schedule.{words-length}
 
 -- ---- one word
--- it has four bytes
-length-word : (word : ℕ) → length (wordBytes word) ≡ 4
-unfolding wordBytes
-length-word word = refl
-
 -- four stores put it from a place on
 pub word-put : (word start : ℕ) (l : List ℕ) → start + 4 ≤ length l
     → set (set (set (set l start (word % 256)) (start + 1) (word / 256 % 256)) (start + 2) (word / 65536 % 256)) (start + 3) (word / 16777216 % 256)
@@ -26,12 +22,6 @@ word-put word start l h = rw (add-one start, add-two start, add-three start) (se
 -- the bytes of words, one after the other
 abbrev pub bytesOf : List ℕ → List ℕ
 bytesOf words = concat (map wordBytes words)
-
--- four for each
-length-words : (words : List ℕ) → length (bytesOf words) ≡ 4 * length words
-unfolding concat
-length-words [] = refl
-length-words (a ∷ l) = omega (arith, length-append (wordBytes a) (bytesOf l), length-word a, length-words l)
 
 -- those of one word more come behind
 bytes-more : (words : List ℕ) (i : ℕ) → i < length words → bytesOf (take i words) ++ wordBytes (getD words i 0) ≡ bytesOf (take (suc i) words)
@@ -49,7 +39,7 @@ drop-past p q n k e = subst (λ (m : ℕ). drop (m + k) (p ++ drop m q) ≡ drop
 unfoldable pub wordsPut : List ℕ → List ℕ → ℕ → List ℕ
 wordsPut bytes words i = take 10 bytes ++ bytesOf (take i words) ++ drop (10 + 4 * i) bytes
 
-module _ (bytes words : List ℕ) (whole : length bytes ≡ 42) (eight : length words ≡ 8) where
+module _ (bytes words : List ℕ) (room : 42 ≤ length bytes) (eight : length words ≡ 8) where
   -- at first none is
   pub none-put : bytes ≡ wordsPut bytes words 0
   unfolding wordsPut concat
@@ -66,9 +56,14 @@ module _ (bytes words : List ℕ) (whole : length bytes ≡ 42) (eight : length 
       before = take 10 bytes ++ bytesOf (take i words)
 
       long : length before ≡ 10 + 4 * i
-      long = omega (arith, length-append (take 10 bytes) (bytesOf (take i words)), length-take-le 10 bytes (omega arith), length-words (take i words), length-take-le i words (omega arith))
+      long = omega (arith, length-append (take 10 bytes) (bytesOf (take i words)), length-take-le 10 bytes (omega arith), words-length (take i words), length-take-le i words (omega arith))
 
   -- at last all eight are
-  pub all-put : wordsPut bytes words 8 ≡ take 10 bytes ++ bytesOf words
+  pub all-put : wordsPut bytes words 8 ≡ take 10 bytes ++ bytesOf words ++ drop 42 bytes
   unfolding wordsPut
-  all-put = rw (take-all 8 words (omega arith), drop-of-length-le bytes {i = 42} (omega arith)) (append-nil _)
+  all-put = rw (take-all 8 words (omega arith)) refl
+
+-- ---- the set behind them
+-- a set put over the last four of 46 bytes
+pub set-put : (before put : List ℕ) (set : ℕ) → length before ≡ 42 → put ≡ before ++ replicate 4 0 → take 42 put ++ wordBytes set ++ drop 46 put ≡ before ++ wordBytes set
+set-put before put set long is = rw (is, take-at before (replicate 4 0) 42 long, drop-of-length-le (before ++ replicate 4 0) {i = 46} (omega (arith, length-append before (replicate 4 0)))) (append-nil _)

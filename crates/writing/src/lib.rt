@@ -4,25 +4,26 @@ ghost use mathlib.Core.List.{_++_, map};
 ghost use Prim.Native.Nat.{_+_, _≤_};
 ghost use lib.ListN.{length, take, drop};
 ghost use Rattle.model.specs.Lists.{bit, concat};
-ghost use Rattle.model.specs.Encoding.{partnerOf, wordBytes, partsOf, allZero, EncodePromise};
-ghost use Rattle.writing.specs.Spelled.{spelled, isBare};
+ghost use Rattle.model.specs.Encoding.{partnerOf, wordBytes, setOf, partsOf, allZero, EncodePromise};
+ghost use Rattle.writing.specs.Spelled.{spelled, fitsKind};
 use model::Answer;
 use model::Operation;
 use model::Receive;
 use model::Record;
 use reading::BAD_RECORD;
-use reading::BEGIN;
-use reading::BEGIN_BYTES;
 use reading::COUNT;
 use reading::FIRST_MARK;
 use reading::FIRST_WORD;
 use reading::HEAD_BYTES;
 use reading::KIND;
+use reading::LONGEST;
 use reading::PARTNER;
 use reading::PARTS;
 use reading::RECEIVE_TIME;
 use reading::SECOND_MARK;
 use reading::SEND_TIME;
+use reading::SET;
+use reading::SET_WORD;
 use reading::TARGET;
 use reading::THREAD;
 
@@ -44,6 +45,19 @@ fn partner_of(receive: Receive) -> u8
         Receive::Absent => 0,
         Receive::Open(w) => w.partner,
         Receive::Closed(w) => w.partner,
+        Receive::OneOf(_, _) => 0,
+    }
+}
+
+// The set that a receive part names; 0 without one.
+fn set_of(receive: Receive) -> u32
+    ensures { λ r. ⌜ r ≡ setOf receive ⌝ }
+{
+    match receive {
+        Receive::Absent => 0,
+        Receive::Open(_) => 0,
+        Receive::Closed(_) => 0,
+        Receive::OneOf(_, set) => set,
     }
 }
 
@@ -71,8 +85,8 @@ fn put_word(bytes: &mut [u8], start: usize, word: u32)
 
 // The eight words of a begin.
 fn put_words(bytes: &mut [u8], words: [u32; 8])
-    requires { ⌜ length (now bytes) ≡ 42 ⌝ }
-    ensures { λ _. ⌜ now (bytes .exit) ≡ take 10 (now (bytes .entry)) ++ concat (map wordBytes words) ⌝ }
+    requires { ⌜ 42 ≤ length (now bytes) ⌝ }
+    ensures { λ _. ⌜ now (bytes .exit) ≡ take 10 (now (bytes .entry)) ++ concat (map wordBytes words) ++ drop 42 (now (bytes .entry)) ⌝ }
 {
     let mut i: usize = 0;
     while i < 8 {
@@ -81,15 +95,16 @@ fn put_words(bytes: &mut [u8], words: [u32; 8])
     }
 }
 
-// A record as if it were a begin: its head, and the bytes of its operation.
-fn spell(item: Record) -> [u8; BEGIN_BYTES]
+// A record as if it were a begin with a set: its head, and the bytes of its operation.
+fn spell(item: Record) -> [u8; LONGEST]
     ensures { λ r. ⌜ r ≡ spelled item ⌝ }
 {
     let op = item.op;
     let send = op.send;
     let receive = op.receive;
     let words = send.words;
-    let mut bytes = [0u8; BEGIN_BYTES];
+    let set = set_of(receive);
+    let mut bytes = [0u8; LONGEST];
     bytes[0] = FIRST_MARK;
     bytes[1] = SECOND_MARK;
     bytes[KIND] = item.kind;
@@ -101,6 +116,7 @@ fn spell(item: Record) -> [u8; BEGIN_BYTES]
     bytes[SEND_TIME] = send.time;
     bytes[RECEIVE_TIME] = threads::receive_time(receive);
     put_words(&mut bytes, words);
+    put_word(&mut bytes, SET_WORD, set);
     bytes
 }
 
@@ -118,13 +134,13 @@ fn all_zero(bytes: &[u8]) -> bool
     true
 }
 
-// A record is a begin, or the bytes of its operation are 0.
-fn is_bare(kind: u8, bytes: &[u8]) -> bool
-    requires { ⌜ length (now bytes) ≡ 42 ⌝ }
-    ensures { λ r. ⌜ r ≡ isBare kind (now (bytes .entry)) ⌝ }
+// The operation of a record is one of its kind: that of a begin names a set exactly if the kind has one, the bytes of any other are 0.
+fn fits_kind(kind: u8, receive: Receive, bytes: &[u8]) -> bool
+    requires { ⌜ 4 ≤ length (now bytes) ⌝ }
+    ensures { λ r. ⌜ r ≡ fitsKind kind receive (now (bytes .entry)) ⌝ }
 {
-    if kind == BEGIN {
-        return true;
+    if reading::is_begin(kind) {
+        return (kind == SET) == threads::names_set(receive);
     }
     all_zero(&bytes[HEAD_BYTES..])
 }
@@ -146,7 +162,9 @@ pub fn write(first: bool, item: Record, bytes: &mut [u8]) -> Answer
     ensures { λ r. ⌜ EncodePromise first item (now (bytes .entry)) r (now (bytes .exit)) ⌝ }
 {
     let space = spell(item);
-    if !is_bare(item.kind, &space) {
+    let op = item.op;
+    let receive = op.receive;
+    if !fits_kind(item.kind, receive, &space) {
         return Answer::Refused(BAD_RECORD);
     }
     if !reading::is_lawful(first, &space) {

@@ -16,7 +16,7 @@ use Rattle.model.specs.Refusals.{refusal, firstRefusal, beginRows}
 use Rattle.model.specs.Promise.{state}
 use Rattle.model.specs.RecordBytes.{kindByte, threadByte, recordLength, lawful}
 use Rattle.model.specs.Decoding.{front}
-use Rattle.reading.proofs.Fronts.{lawful-begin-long}
+use Rattle.laws.proofs.Schedule.{lawful-long}
 use Rattle.core.proofs.Stepped.{slice-eight, in-array, queue-fits, held-stays, other-in-array, slice-ends, fits-here, ending-waits, stepped-on, stepped-to-end}
 use Rattle.core.proofs.Performed.{tick-performed, none-ticked, one-more-ticked, all-ticked, begin-words, begin-leaves, joined-in-array, joined-room}
 use Rattle.playing.proofs.Records.{must-begin}
@@ -364,7 +364,7 @@ loop-again-7 c =
 operation-at-requires : tie.Need-operation-at-requires Inv-loop2 μ-loop2 Inv-loop μ-loop
 operation-at-requires c κs =
     let b = beginning c in let t = turn (measured b) in
-    lawful-begin-long _ false (good t) (must-begin _ (good t) (b .before .if2 .left) (c .before .before .if4 .left) (c .if7 .left))
+    (must-begin _ (good t) (b .before .if2 .left) (c .before .before .if4 .left) (c .if7 .left), lawful-long _ false (good t))
 
 loop-again-8 : tie.Need-loop-again-8 Inv-loop2 μ-loop2 Inv-loop μ-loop
 loop-again-8 c =

@@ -28,6 +28,15 @@ returns-3 c =
     let part = named .before .before .before .before in
     rw (part .receive2 .given .1) (named .put-text2 .ensures then more-numbers _ _ (aimed .put-spaced2 .ensures) (timed .put-spaced3 .ensures))
 
+returns-4 : tie.Need-returns-4
+unfolding receiveText ascii upTo
+returns-4 c =
+    let timed = c .before .before in
+    let aimed = timed .before .before .before .before in
+    let named = aimed .before .before .before .before in
+    let part = named .before .before .before .before in
+    rw (part .receive3 .given .1) (named .put-text3 .ensures then more-numbers _ _ (aimed .put-spaced4 .ensures) (timed .put-spaced5 .ensures))
+
 pub put-receive-spec : {M : Type 1} → statement M
 put-receive-spec =
     tie.close
@@ -45,8 +54,16 @@ put-receive-spec =
     (λ c κs. search needs)
     (λ c. search needs)
     (λ c κs. search needs)
+    (λ c. search needs)
+    (λ c. search needs)
+    (λ c κs. search needs)
+    (λ c κs. search needs)
+    (λ c. search needs)
+    (λ c κs. search needs)
     returns
     (λ c. search needs)
     returns-2
     (λ c. search needs)
-    returns-3)
+    returns-3
+    (λ c. search needs)
+    returns-4)

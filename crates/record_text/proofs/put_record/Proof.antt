@@ -1,3 +1,4 @@
+use mathlib.Core.Path.{sym, _∙_}
 use Prim.Native.Nat.{_≤_}
 use lib.ListN.{length}
 use borrow.Author.Needs.{needs}
@@ -21,15 +22,15 @@ unfolding ascii upTo
 returns c =
     let named = c .before .before in
     let table = named .before .before .before in
-    (rw (line-of-table _ (eq-eqb _ _ (table .if1 .taken))) (named .put-named .ensures), short (table .before .before))
+    (rw (line-of-table (table .before .before .args .item) (eq-eqb _ _ (table .if1 .taken))) (named .put-named .ensures), short (table .before .before))
 
 returns-2 : tie.Need-returns-2
 unfolding beginLine
 returns-2 c =
     let begun = c .before .before in
     let begin = begun .before .before in
-    let table = begin .before in
-    (rw (line-of-begin _ (ne-eqb _ _ (table .if1 .left)) (eq-eqb _ _ (begin .if2 .taken))) (begun .put-begin .ensures), short (table .before .before))
+    let table = begin .before .before in
+    (rw (line-of-begin (table .before .before .args .item) (ne-eqb _ _ (table .if1 .left)) (sym (begin .before .is-begin .ensures) ∙ begin .if2 .taken)) (begun .put-begin .ensures), short (table .before .before))
 
 returns-3 : tie.Need-returns-3
 unfolding ascii upTo
@@ -37,8 +38,8 @@ returns-3 c =
     let named = c .before .before in
     let step = named .before .before .before in
     let begin = step .before in
-    let table = begin .before in (
-      rw (line-of-step _ (ne-eqb _ _ (table .if1 .left)) (ne-eqb _ _ (begin .if2 .left)) (eq-eqb _ _ (step .if3 .taken))) (named .put-named2 .ensures),
+    let table = begin .before .before in (
+      rw (line-of-step (table .before .before .args .item) (ne-eqb _ _ (table .if1 .left)) (sym (begin .before .is-begin .ensures) ∙ begin .if2 .left) (eq-eqb _ _ (step .if3 .taken))) (named .put-named2 .ensures),
       short (table .before .before),
     )
 
@@ -49,8 +50,8 @@ returns-4 c =
     let cancel = named .before .before .before in
     let step = cancel .before in
     let begin = step .before in
-    let table = begin .before in (
-      rw (line-of-cancel _ (ne-eqb _ _ (table .if1 .left)) (ne-eqb _ _ (begin .if2 .left)) (ne-eqb _ _ (step .if3 .left)) (eq-eqb _ _ (cancel .if4 .taken))) (named .put-named3 .ensures),
+    let table = begin .before .before in (
+      rw (line-of-cancel (table .before .before .args .item) (ne-eqb _ _ (table .if1 .left)) (sym (begin .before .is-begin .ensures) ∙ begin .if2 .left) (ne-eqb _ _ (step .if3 .left)) (eq-eqb _ _ (cancel .if4 .taken))) (named .put-named3 .ensures),
       short (table .before .before),
     )
 
@@ -61,8 +62,8 @@ returns-5 c =
     let cancel = named .before .before .before in
     let step = cancel .before in
     let begin = step .before in
-    let table = begin .before in (
-      rw (line-of-tick _ (ne-eqb _ _ (table .if1 .left)) (ne-eqb _ _ (begin .if2 .left)) (ne-eqb _ _ (step .if3 .left)) (ne-eqb _ _ (cancel .if4 .left))) (named .put-text .ensures),
+    let table = begin .before .before in (
+      rw (line-of-tick (table .before .before .args .item) (ne-eqb _ _ (table .if1 .left)) (sym (begin .before .is-begin .ensures) ∙ begin .if2 .left) (ne-eqb _ _ (step .if3 .left)) (ne-eqb _ _ (cancel .if4 .left))) (named .put-text .ensures),
       short (table .before .before),
     )
 
@@ -74,6 +75,7 @@ put-record-spec =
     (λ c κs. search needs)
     (λ c. search needs)
     returns
+    (λ c κs. search needs)
     (λ c κs. search needs)
     (λ c. search needs)
     returns-2

@@ -5,7 +5,7 @@ use Prim.Native.Nat.{ℕ}
 use lib.Dec.{eqb}
 use borrow.Author.Needs.{needs}
 use Rattle.model.specs.declared.Table.{Table}
-use Rattle.model.specs.Refusals.{firstRefusal, neitherPart, withItself, noPartner, tooManyWords, badTime}
+use Rattle.model.specs.Refusals.{firstRefusal, neitherPart, withItself, noPartner, noMember, tooManyWords, badTime}
 use Rattle.model.specs.Operations.{closedBeyond}
 use Rattle.refusals.proofs.Laws.{first-joined, row-as, words-numbered, time-row}
 use Rattle.refusals.specs.Rows.{operationRows}
@@ -68,15 +68,30 @@ partner w t e =
     let a = entry (partner-read w) .args in
     w .row3 .ensures ∙ row-as 8 _ _ (w .before .closed-beyond .ensures ∙ ap (λ (k : ℕ). closedBeyond k (a .op .receive)) (sym e))
 
+-- the row on a set without members is tested
+abbrev Nobody : Type 0
+Nobody = tie.After-row4
+
+abbrev to-partner : Nobody → Partner
+to-partner w = w .before .before
+
+abbrev nobody-read : Nobody → Read
+nobody-read w = partner-read (to-partner w)
+
+-- what it says
+nobody : (w : Nobody) → w .row4 .result ≡ firstRefusal (noMember (entry (nobody-read w) .args .op) ∷ [])
+unfolding noMember
+nobody w = w .row4 .ensures ∙ row-as 15 _ _ (w .before .is-empty .ensures)
+
 -- the row on too many words is tested
 abbrev Words : Type 0
 Words = tie.After-words-refusal
 
-abbrev to-partner : Words → Partner
-to-partner w = w .before
+abbrev to-nobody : Words → Nobody
+to-nobody w = w .before
 
 abbrev words-read : Words → Read
-words-read w = partner-read (to-partner w)
+words-read w = nobody-read (to-nobody w)
 
 -- what it says
 words : (w : Words) → let a = entry (words-read w) .args in w .words-refusal .result ≡ firstRefusal (tooManyWords (a .via) (a .op) ∷ [])
@@ -84,7 +99,7 @@ words w = w .words-refusal .ensures
 
 -- the row on time codes is tested
 abbrev Time : Type 0
-Time = tie.After-row4
+Time = tie.After-row5
 
 abbrev to-words : Time → Words
 to-words w = w .before .before .before
@@ -93,31 +108,36 @@ abbrev time-read : Time → Read
 time-read w = words-read (to-words w)
 
 -- what it says
-time : (w : Time) → w .row4 .result ≡ firstRefusal (badTime (entry (time-read w) .args .op) ∷ [])
+time : (w : Time) → w .row5 .result ≡ firstRefusal (badTime (entry (time-read w) .args .op) ∷ [])
 unfolding badTime
 time w =
     let r = time-read w in
-    w .row4 .ensures ∙ row-as 10 _ _ (time-row (entry r .args .op) _ _ (r .before .has-receive .ensures) (r .receive-time .ensures))
+    w .row5 .ensures ∙ row-as 10 _ _ (time-row (entry r .args .op) _ _ (r .before .has-receive .ensures) (r .receive-time .ensures))
 
 -- ---- the rows are joined, the last two first
 returns : tie.Need-returns
-unfolding operationRows neitherPart withItself noPartner tooManyWords badTime
+unfolding operationRows neitherPart withItself noPartner noMember tooManyWords badTime
 returns c = λ t e.
-    let last : Time = c .before .before .before .before in
-    let fourth = to-words last in
+    let last : Time = c .before .before .before .before .before in
+    let fifth = to-words last in
+    let fourth = to-nobody fifth in
     let third = to-partner fourth in
     let second = to-itself third in
     let first = to-neither second in
     let a = entry (neither-read first) .args in
-    c .first4 .ensures ∙ first-joined (neitherPart (a .op) ∷ []) _ _ _ refl (neither first)
-    (c .before .first3 .ensures ∙ first-joined (withItself (a .x) (a .op) ∷ []) _ _ _ refl (itself second)
-    (c .before .before .first2 .ensures ∙ first-joined (noPartner t (a .op) ∷ []) _ _ _ refl (partner third t e)
-    (c .before .before .before .first .ensures ∙ first-joined (tooManyWords (a .via) (a .op) ∷ []) (badTime (a .op) ∷ []) _ _ (words-numbered (a .via) (a .op)) (words fourth) (time last))))
+    c .first5 .ensures ∙ first-joined (neitherPart (a .op) ∷ []) _ _ _ refl (neither first)
+    (c .before .first4 .ensures ∙ first-joined (withItself (a .x) (a .op) ∷ []) _ _ _ refl (itself second)
+    (c .before .before .first3 .ensures ∙ first-joined (noPartner t (a .op) ∷ []) _ _ _ refl (partner third t e)
+    (c .before .before .before .first2 .ensures ∙ first-joined (noMember (a .op) ∷ []) _ _ _ refl (nobody fourth)
+    (c .before .before .before .before .first .ensures ∙ first-joined (tooManyWords (a .via) (a .op) ∷ []) (badTime (a .op) ∷ []) _ _ (words-numbered (a .via) (a .op)) (words fifth) (time last)))))
 
 pub operation-refusal-spec : {M : Type 1} → statement M
 operation-refusal-spec =
     tie.close
     (tie.spec
+    (λ c κs. search needs)
+    (λ c κs. search needs)
+    (λ c κs. search needs)
     (λ c κs. search needs)
     (λ c κs. search needs)
     (λ c κs. search needs)

@@ -9,7 +9,7 @@ use Rattle.writing.proofs.put_words.Tie as tie
 
 -- the first i words are put
 abbrev Inv-loop : tie.InvT-loop
-Inv-loop bytes₀ words i₀ bytes i = (i ≤ 8) × (length bytes ≡ 42) × (length words ≡ 8) × (bytes ≡ wordsPut bytes₀ words i)
+Inv-loop bytes₀ words i₀ bytes i = (i ≤ 8) × (length bytes ≡ length bytes₀) × (length words ≡ 8) × (bytes ≡ wordsPut bytes₀ words i)
 
 -- how many words are left
 abbrev μ-loop : tie.MeasureT-loop
@@ -21,7 +21,7 @@ abbrev Top : Type 0
 Top = tie.At-loop Inv-loop μ-loop
 
 -- there, what was asked at the entry
-asked : (p : Top) → length (p .before .before .args .bytes .now) ≡ 42
+asked : (p : Top) → 42 ≤ length (p .before .before .args .bytes .now)
 asked p = p .before .before .pre
 
 -- ---- the needs

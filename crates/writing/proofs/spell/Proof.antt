@@ -1,76 +1,72 @@
-use mathlib.Core.Path.{_∙_}
+use mathlib.Core.Path.{_≡_, refl, ap, _∙_}
+use mathlib.Core.List.{_∷_, _++_}
+use Prim.Native.Nat.{ℕ}
+use native.Mathlib.Omega.{arith}
+use lib.ListN.{length, replicate}
 use borrow.Author.Needs.{needs}
-use Rattle.model.specs.Encoding.{operationBytes}
-use Rattle.writing.specs.Spelled.{spelled}
+use Rattle.model.specs.declared.Record.{Record}
+use Rattle.model.specs.Operations.{receiveTime}
+use Rattle.model.specs.Encoding.{partnerOf, wordBytes, partsOf}
+use Rattle.laws.proofs.Schedule.{words-length}
+use Rattle.writing.specs.Spelled.{upToSet, spelled}
+use Rattle.writing.proofs.Words.{bytesOf, set-put}
 use Rattle.writing.proofs.spell.Statement.{statement}
 use Rattle.writing.proofs.spell.Tie as tie
 
-array-write-bytes : tie.Need-array-write-bytes
-array-write-bytes c = search needs
+-- the bytes up to the set, by the results of what was called for three of them
+fields-spelled : (r : Record) (parts partner time : ℕ) → parts ≡ partsOf (r .op) → partner ≡ partnerOf (r .op .receive) → time ≡ receiveTime (r .op .receive)
+    → 0x4C ∷ 0x34 ∷ r .kind ∷ r .thread ∷ parts ∷ r .op .send .target ∷ partner ∷ r .op .send .count ∷ r .op .send .time ∷ time ∷ bytesOf (r .op .send .words) ++ replicate 4 0 ≡ upToSet r ++ replicate 4 0
+fields-spelled r parts partner time e f g = rw (e, f, g) refl
 
-array-write-bytes-2 : tie.Need-array-write-bytes-2
-array-write-bytes-2 c = search needs
+-- ---- the places of the code from which the need below speaks; each leads back to the one before
+-- at the entry there are eight words, so up to its set the record has 42 bytes
+set-place : (s : tie.Start) → length (upToSet (s .args .item)) ≡ 42
+set-place s = let eight : length (s .args .item .op .send .words) ≡ 8 = search needs in omega (arith, words-length (s .args .item .op .send .words))
 
-array-write-bytes-3 : tie.Need-array-write-bytes-3
-array-write-bytes-3 c = search needs
+-- all fields are put before the words
+abbrev Fields : Type 0
+Fields = tie.After-receive-time
 
-array-write-bytes-4 : tie.Need-array-write-bytes-4
-array-write-bytes-4 c = search needs
+abbrev entry : Fields → tie.Start
+entry f = f .before .before .before .before .before .before .before
 
-parts-of-requires : tie.Need-parts-of-requires
-parts-of-requires c κs = search needs
+-- the words are put
+abbrev Words : Type 0
+Words = tie.After-put-words
 
-array-write-bytes-5 : tie.Need-array-write-bytes-5
-array-write-bytes-5 c = search needs
+abbrev fields : Words → Fields
+fields w = w .before .before
 
-array-write-bytes-6 : tie.Need-array-write-bytes-6
-array-write-bytes-6 c = search needs
-
-partner-of-requires : tie.Need-partner-of-requires
-partner-of-requires c κs = search needs
-
-array-write-bytes-7 : tie.Need-array-write-bytes-7
-array-write-bytes-7 c = search needs
-
-array-write-bytes-8 : tie.Need-array-write-bytes-8
-array-write-bytes-8 c = search needs
-
-array-write-bytes-9 : tie.Need-array-write-bytes-9
-array-write-bytes-9 c = search needs
-
-receive-time-requires : tie.Need-receive-time-requires
-receive-time-requires c κs = search needs
-
-array-write-bytes-10 : tie.Need-array-write-bytes-10
-array-write-bytes-10 c = search needs
-
-slice-aggregate-put-words : tie.Need-slice-aggregate-put-words
-slice-aggregate-put-words c = search needs
-
-put-words-requires : tie.Need-put-words-requires
-put-words-requires c κs = search needs
-
+-- ---- the need
 returns : tie.Need-returns
-unfolding spelled operationBytes
-returns c = c .before .put-words .ensures ∙ rw (c .before .before .before .before .before .parts-of .ensures, c .before .before .before .before .partner-of .ensures, c .before .before .before .receive-time .ensures)
+unfolding spelled
+returns c =
+    let w : Words = c .before .before .before .before in
+    let f : Fields = fields w in
+    c .before .put-word .ensures
+    ∙ set-put (upToSet (entry f .args .item)) _ _ (set-place (entry f)) (w .put-words .ensures ∙ fields-spelled (entry f .args .item) _ _ _ (f .before .before .parts-of .ensures) (f .before .partner-of .ensures) (f .receive-time .ensures))
+    ∙ ap (λ (set : ℕ). upToSet (entry f .args .item) ++ wordBytes set) (f .before .before .before .set-of .ensures)
 
 pub spell-spec : {M : Type 1} → statement M
 spell-spec =
     tie.close
     (tie.spec
-    array-write-bytes
-    array-write-bytes-2
-    array-write-bytes-3
-    array-write-bytes-4
-    parts-of-requires
-    array-write-bytes-5
-    array-write-bytes-6
-    partner-of-requires
-    array-write-bytes-7
-    array-write-bytes-8
-    array-write-bytes-9
-    receive-time-requires
-    array-write-bytes-10
-    slice-aggregate-put-words
-    put-words-requires
+    (λ c κs. search needs)
+    (λ c. search needs)
+    (λ c. search needs)
+    (λ c. search needs)
+    (λ c. search needs)
+    (λ c κs. search needs)
+    (λ c. search needs)
+    (λ c. search needs)
+    (λ c κs. search needs)
+    (λ c. search needs)
+    (λ c. search needs)
+    (λ c. search needs)
+    (λ c κs. search needs)
+    (λ c. search needs)
+    (λ c. search needs)
+    (λ c κs. search needs)
+    (λ c. search needs)
+    (λ c κs. search needs)
     returns)

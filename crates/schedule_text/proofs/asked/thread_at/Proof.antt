@@ -21,7 +21,7 @@ cast-result : tie.Need-cast-result
 cast-result c =
     let other = c .before in
     let entry = other .before in
-    omega (arith, named-thread (entry .args .kind) (entry .args .numbers .now) (other .if1 .left) (entry .args .i), entry .pre .1 (entry .args .i))
+    omega (arith, named-thread (entry .args .row) (entry .args .numbers .now) (other .if1 .left) (entry .args .i), entry .pre .1 (entry .args .i))
 
 returns-2 : tie.Need-returns-2
 returns-2 c = named-thread _ _ (c .before .if1 .left) _

@@ -6,6 +6,7 @@ use lib.Dec.{eqb}
 use lib.ListN.{length, getD}
 use borrow.Author.Needs.{needs}
 use borrow.Author.Tests.{not-true, not-false}
+use Rattle.model.specs.RecordBytes.{longestRecord}
 use Rattle.model.specs.Encoding.{lawfulRecord}
 use Rattle.laws.proofs.Schedule.{record-longest}
 use Rattle.language.specs.RecordText.{threadsOf, recordsAsked, lawfulRow}
@@ -16,21 +17,21 @@ use Rattle.schedule_text.proofs.bytes.write_records.Tie as tie
 
 -- what is gathered lies in the buffer, whose length is as it was; there are as many records as threads, none is longer than the longest, and all are lawful where those from place i on are
 abbrev Inv-loop : tie.InvT-loop
-Inv-loop first kind op numbers out₀ count size filled₀ i₀ out filled i =
-    (filled ≤ length out) × (length out ≡ length out₀) × (count ≡ length (threadsOf kind numbers)) × (size ≤ 42)
-    × (lawfulRow first (recordsAsked kind numbers op) ≡ lawfulFrom first kind op (threadsOf kind numbers) i)
+Inv-loop first row op numbers out₀ count kind size filled₀ i₀ out filled i =
+    (filled ≤ length out) × (length out ≡ length out₀) × (count ≡ length (threadsOf row numbers)) × (size ≤ longestRecord)
+    × (lawfulRow first (recordsAsked row numbers op) ≡ lawfulFrom first row op (threadsOf row numbers) i)
 
 -- how many records are left
 abbrev μ-loop : tie.MeasureT-loop
-μ-loop first kind op numbers out₀ count size filled₀ i₀ out filled i = count - i
+μ-loop first row op numbers out₀ count kind size filled₀ i₀ out filled i = count - i
 
 loop-holds : tie.Need-loop-holds Inv-loop μ-loop
-loop-holds c = (search needs, search needs, c .before .how-many .ensures, rw (c .record-length .ensures) (record-longest _), from-first _ _ _ _)
+loop-holds c = (search needs, search needs, c .before .before .how-many .ensures, rw (c .record-length .ensures) (record-longest _), from-first _ _ _ _)
 
 record-at-requires : tie.Need-record-at-requires Inv-loop μ-loop
 record-at-requires c κs =
     let test = c .before .before in
-    let start = test .before .before .before .before .before .before in
+    let start = test .before .before .before .before .before .before .before in
     (omega (arith, test .before .loop .inv .2, test .loop-test .taken), start .pre .0)
 
 -- the turn and the entry, once a record is written
@@ -38,17 +39,17 @@ abbrev turn : tie.After-put-lawful Inv-loop μ-loop → tie.At-loop Inv-loop μ-
 turn c = c .before .before .before .before .before .before
 
 abbrev entry : tie.After-put-lawful Inv-loop μ-loop → tie.Start Inv-loop μ-loop
-entry c = turn c .before .before .before .before .before
+entry c = turn c .before .before .before .before .before .before
 
 -- what is answered is whether it is lawful
 answered : (c : tie.After-put-lawful Inv-loop μ-loop) → (b : Bool) → c .put-lawful .result ≡ b
     → lawfulRecord (entry c .args .first && eqb (turn c .loop .i) 0)
-    (recordFor (entry c .args .kind) (entry c .args .op) (getD (threadsOf (entry c .args .kind) (entry c .args .numbers .now)) (turn c .loop .i) 0))
+    (recordFor (entry c .args .row) (entry c .args .op) (getD (threadsOf (entry c .args .row) (entry c .args .numbers .now)) (turn c .loop .i) 0))
     ≡ b
 answered c b e = sym (c .put-lawful .ensures ∙ ap (lawfulRecord _) (c .before .before .record-at .ensures)) ∙ e
 
 -- there is such a record
-inside : (c : tie.After-put-lawful Inv-loop μ-loop) → turn c .loop .i < length (threadsOf (entry c .args .kind) (entry c .args .numbers .now))
+inside : (c : tie.After-put-lawful Inv-loop μ-loop) → turn c .loop .i < length (threadsOf (entry c .args .row) (entry c .args .numbers .now))
 inside c = omega (arith, turn c .loop .inv .2, c .before .before .before .before .before .loop-test .taken)
 
 returns : tie.Need-returns Inv-loop μ-loop
@@ -72,6 +73,7 @@ write-records-spec =
     (tie.spec
     Inv-loop
     μ-loop
+    (λ c κs. search needs)
     (λ c κs. search needs)
     (λ c κs. search needs)
     loop-holds

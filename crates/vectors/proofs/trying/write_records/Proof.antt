@@ -5,11 +5,11 @@ use Rattle.vectors.proofs.trying.write_records.Tie as tie
 
 -- at most all cases are tried
 abbrev Inv-loop : tie.InvT-loop
-Inv-loop all i₀ i = i ≤ 18
+Inv-loop all i₀ i = i ≤ 27
 
 -- how many are left
 abbrev μ-loop : tie.MeasureT-loop
-μ-loop all i₀ i = 18 - i
+μ-loop all i₀ i = 27 - i
 
 pub write-records-spec : {M : Type 1} → statement M
 write-records-spec =
