@@ -10,6 +10,7 @@ use Rattle.model.specs.declared.Receive.{Receive}
 use Rattle.model.specs.declared.Operation.{Operation}
 use Rattle.model.specs.declared.Record.{Record}
 use Rattle.model.specs.Answers.{accepted, moved, replied, asleep}
+use Rattle.model.specs.Operations.{closedBeyond}
 use Rattle.model.specs.Codes.{done, running, neverBegun, codeOnly}
 use Rattle.model.specs.Calls.{Call, begin, sparkBegin}
 use Rattle.model.specs.Refusals.{refusal}
@@ -68,7 +69,7 @@ row partner-40 = receives (closedFor 40 15) 8
 row partner-255 = receives (closedFor 255 15) 8
 row itself-before-partner-40 = calling 0 1 15 (closedFor 40 15) 7
 
--- either entry returns what the row says
+-- the main entry returns what the row says
 pub begun : (name : Name) → refusal (begin 0 (row name .op)) (firstState 4) ≡ row name .number
 unfolding afterEntryPoints row
 begun two-members = refl
@@ -88,9 +89,9 @@ begun partner-40 = refl
 begun partner-255 = refl
 begun itself-before-partner-40 = refl
 
--- of 32 threads no set has a member beyond, and 40 is still a partner beyond
-pub of-32 : map (λ (r : Receive). refusal (begin 0 (receiveOnly r)) (firstState 32)) (oneOfFor 0xFFFFFFFE 15 ∷ oneOfFor 0xFFFFFFFF 15 ∷ closedFor 31 15 ∷ closedFor 32 15 ∷ closedFor 40 15 ∷ [])
-    ≡ 0 ∷ 7 ∷ 0 ∷ 8 ∷ 8 ∷ []
+-- of 32 threads no set has a member beyond, and 32 and above are still partners beyond
+pub of-32 : map (λ (r : Receive). closedBeyond 32 r) (oneOfFor 0x80000000 15 ∷ oneOfFor 0xFFFFFFFF 15 ∷ closedFor 31 15 ∷ closedFor 32 15 ∷ closedFor 40 15 ∷ closedFor 255 15 ∷ [])
+    ≡ replicate 3 false ++ replicate 3 true
 unfolding afterEntryPoints
 of-32 = refl
 
