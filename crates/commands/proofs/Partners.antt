@@ -22,7 +22,7 @@ use Rattle.model.specs.Refusals.{unless}
 use Rattle.model.proofs.Laws.{by}
 use Rattle.laws.proofs.Joined.{drop-of-take}
 use Rattle.language.specs.Words.{words, hasComma, pieces, value}
-use Rattle.language.specs.Grammar.{largest, takesSign}
+use Rattle.language.specs.Grammar.{largest, takesSign, takesChoice}
 use Rattle.language.specs.Commands.{isNegative, digitsOf, wrongNumber, kept, Progress, stopped, reached, readNumber, readNumbers, withMember, readMembers, misspelled, startsWith, closed, readOpen, readClosed, readOneOf, readPartners, readWait}
 use Rattle.scanning.specs.Scanned.{between, Run, ofPiece, Found}
 use Rattle.scanning.proofs.Runs.{found-none, found-word}
@@ -111,7 +111,7 @@ thread-small word amount m z = let fits : value (digitsOf (code "t") word) ≤ 3
 module _ (word : List ℕ) (left : List (List ℕ)) (set start stop : ℕ) (r : Run ofPiece word start stop) (amount : Amount) (m : Measured (code "t") (digitsOf (code "t") (between start stop word)) amount) where
   -- a piece that is one is put into the set
   piece-read : (more : List (List ℕ)) → amount .reason ≡ 0 → readMembers set (between start stop word ∷ more) left ≡ readMembers (withMember set (amount .value)) more left
-  unfolding readMembers wrongNumber digitsOf isNegative takesSign
+  unfolding readMembers wrongNumber digitsOf isNegative takesSign takesChoice
   piece-read more z = unless-none _ _ _ (sym (m .reason) ∙ z) ∙ ap (λ (s : ℕ). readMembers (withMember set s) more left) (sym (m .which z))
 
   -- another stops the reading

@@ -12,13 +12,14 @@ use Rattle.model.specs.Refusals.{unless}
 use Rattle.laws.proofs.Joined.{drop-of-take}
 use Rattle.language.specs.Words.{words, value}
 use Rattle.language.specs.Grammar.{takesSign}
-use Rattle.language.specs.Commands.{missing, tooMuch, isNegative, digitsOf, wrongNumber, kept, Progress, stopped, reached, readNumber, readNumbers, readMore}
+use Rattle.language.specs.Commands.{missing, tooMuch, isNegative, digitsOf, reasonFor, wrongNumber, kept, Progress, stopped, reached, readNumber, readNumbers, readMore}
 use Rattle.scanning.specs.Scanned.{between, Found}
 use Rattle.scanning.proofs.Runs.{found-none, found-word}
 use Rattle.commands.specs.declared.Cursor.{Cursor}
 use Rattle.letters.specs.declared.Amount.{Amount}
 use Rattle.commands.specs.Standing.{progress, Placed, Stands, Advanced, oneMore, readOn}
 use Rattle.letters.specs.Measured.{Measured}
+use Rattle.letters.proofs.Measures.{reason-there}
 
 -- ---- a refusal or a value
 module _ {ℓ} {A : Type ℓ} (refused : ℕ → A) (accepted : A) where
@@ -122,13 +123,13 @@ module _ (line : List ℕ) (letter : ℕ) (cursor : Cursor) (stands : Stands lin
 
   module _ (start end : ℕ) (f : Found line (cursor .at) start end) (e : cursor .reason ≡ 0) where
     -- no word is left
-    pub number-missing : (numbers : List ℕ) → start ≡ end
-        → Advanced line numbers (readNumber letter (progress line numbers cursor)) (cursor .count + 2) (record { reason = missing; start = start; end = end; at = end; count = cursor .count })
-    unfolding readNumber progress unless
-    number-missing numbers s = record {
-      stands = stands-at line cursor start end f e missing (cursor .count);
+    pub number-missing : (numbers : List ℕ) → start ≡ end → (reason : ℕ) → reason ≡ reasonFor letter missing
+        → Advanced line numbers (readNumber letter (progress line numbers cursor)) (cursor .count + 2) (record { reason = reason; start = start; end = end; at = end; count = cursor .count })
+    unfolding readNumber
+    number-missing numbers s reason is = record {
+      stands = stands-at line cursor start end f e reason (cursor .count);
       few = omega arith;
-      means = ap (stopped missing) (between-none line start end s) ∙ sym (ap (readNumber letter) (reached-end line cursor start end f e numbers s));
+      means = progress-stopped line numbers _ (λ z. reason-there letter missing (λ w. omega arith) (sym is ∙ z)) ∙ rw is (ap (stopped (reasonFor letter missing)) (between-none line start end s)) ∙ sym (ap (readNumber letter) (reached-end line cursor start end f e numbers s));
     }
 
     -- the next word is read

@@ -19,8 +19,8 @@ use Rattle.model.specs.Refusals.{unless, firstRefusal}
 use Rattle.model.proofs.Laws.{by}
 use Rattle.laws.proofs.Lists.{zero-or-not}
 use Rattle.language.specs.Words.{words, sameWord, isNumber, value}
-use Rattle.language.specs.Grammar.{largest, takesSign}
-use Rattle.language.specs.Commands.{noPart, tooMuch, isNegative, digitsOf, wrongDigits, wrongNumber, kept, Progress, stopped, reached, readNumber, readNumbers, Spelled, misspelled, spelled, startsWith, closed, readOpen, readClosed, readWait, readReceive, withWord, readWords, emptySend, readSend, readParts}
+use Rattle.language.specs.Grammar.{largest, takesSign, takesChoice}
+use Rattle.language.specs.Commands.{noPart, notNumber, tooMuch, isNegative, digitsOf, wrongDigits, wrongNumber, kept, Progress, stopped, reached, readNumber, readNumbers, Spelled, misspelled, spelled, startsWith, closed, readOpen, readClosed, readWait, readReceive, withWord, readWords, emptySend, readSend, readParts}
 use Rattle.scanning.specs.Scanned.{between, Found}
 use Rattle.scanning.proofs.Runs.{found-none, found-word}
 use Rattle.commands.specs.declared.Cursor.{Cursor}
@@ -28,6 +28,7 @@ use Rattle.commands.specs.declared.Parts.{Parts}
 use Rattle.letters.specs.declared.Amount.{Amount}
 use Rattle.commands.specs.Standing.{progress, spelling, Placed, Stands, Advanced, Spells, misspelling, spellingOut, startingAt}
 use Rattle.letters.specs.Measured.{Measured}
+use Rattle.letters.proofs.Measures.{reason-there}
 use Rattle.commands.proofs.Reading.{unless-none, unless-some, progress-stopped, progress-reached, between-none}
 
 -- ---- parts
@@ -87,7 +88,7 @@ pub not-above : (letter : ℕ) (digits : List ℕ) → wrongDigits letter digits
 unfolding wrongDigits firstRefusal
 not-above letter digits e = by (isNumber digits)
     (λ n. by (ltb (largest letter) (value digits)) (λ l. let clash : _≡_ {A = ℕ} 6 0 = rw (n, l) at e in absurd (omega arith)) (λ l. ltb-false _ _ l))
-    (λ n. let clash : _≡_ {A = ℕ} 5 0 = rw n at e in absurd (omega arith))
+    (λ n. absurd (reason-there letter notNumber (λ z. omega arith) (rw n at e)))
 
 -- a list with one number more
 pub record NumberMore (letter : ℕ) (before after : List ℕ) : Type 0 where
@@ -246,7 +247,7 @@ module _ (line : List ℕ) (send : SendPart) (at start end : ℕ) (f : Found lin
 
       -- what is one
       pub words-more : amount .reason ≡ 0 → readWords (withWord (amount .value) send) (words (drop end line)) ≡ readWords send (words (drop at line))
-      unfolding readWords wrongNumber digitsOf isNegative takesSign
+      unfolding readWords wrongNumber digitsOf isNegative takesSign takesChoice
       words-more z = rw (found-word line at start end f d, e, m .which z) (sym (unless-none _ _ _ (sym (m .reason) ∙ z)))
 
 module _ (line before after : List ℕ) (at most : ℕ) (last : Cursor) (a : Advanced line after (readNumbers (ascii "bb") (progress line before (startingAt at))) most last) where

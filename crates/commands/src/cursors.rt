@@ -15,6 +15,7 @@ use crate::MISSING;
 use crate::TOO_MUCH;
 use letters::amount_of;
 use letters::is_negative;
+use letters::reason_for;
 use letters::takes_sign;
 use scanning::next_word;
 
@@ -87,7 +88,7 @@ fn read_number(line: &[u8], letter: u8, cursor: Cursor, numbers: &mut [u32]) -> 
     let end = span.end;
     if start == end {
         return Cursor {
-            reason: MISSING,
+            reason: reason_for(letter, MISSING),
             start,
             end,
             at: end,

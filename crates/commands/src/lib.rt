@@ -71,6 +71,10 @@ pub const SEARCH_ROW: u8 = 14;
 
 pub const SPARK_ROW: u8 = 15;
 
+pub const RULE_ROW: u8 = 16;
+
+pub const RULES_ROW: u8 = 17;
+
 // Then the fields that `set` can set.
 pub const FLAGS_ROW: u8 = FIRST_FIELD as u8;
 
@@ -103,7 +107,7 @@ pub const NOTHING: u8 = 255;
 const SET_ROW: usize = 13;
 
 // The first row that is a field, and how many fields there are.
-const FIRST_FIELD: usize = 16;
+const FIRST_FIELD: usize = 18;
 
 const FIELDS: usize = 12;
 
@@ -368,6 +372,8 @@ help               .
 set         t      f
 search      b      .
 spark       b      p
+rule        bbbby  .
+rules              .
 flags       11111  .
 phase       b      .
 left        n      .

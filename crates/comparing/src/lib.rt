@@ -2,7 +2,9 @@
 use model::Operation;
 use model::Outcome;
 use model::Queue;
+use model::Range;
 use model::Receive;
+use model::Rules;
 use model::SendPart;
 use model::Table;
 use model::Thread;
@@ -92,7 +94,28 @@ fn same_thread(a: Thread, b: Thread) -> bool {
         & (a.waking == b.waking)
 }
 
-// The same table: each field of each thread, also of those that are not in use, but for the places of a queue past its length.
+// The same range.
+fn same_range(a: Range, b: Range) -> bool {
+    (a.from == b.from) & (a.to == b.to)
+}
+
+// The same rules: how many rows there are, and every row, also of those that are not in use.
+fn same_rules(a: Rules, b: Rules) -> bool {
+    let mut i: usize = 0;
+    while i < 64 {
+        let v = a.rows[i];
+        let w = b.rows[i];
+        if !(same_range(v.senders, w.senders)
+            & same_range(v.targets, w.targets)
+            & (v.permits == w.permits)) {
+            return false;
+        }
+        i += 1;
+    }
+    a.len == b.len
+}
+
+// The same table: each field of each thread, also of those that are not in use, but for the places of a queue past its length; and the rules.
 pub fn same_table(a: Table, b: Table) -> bool {
     let mut i: usize = 0;
     while i < 32 {
@@ -103,5 +126,5 @@ pub fn same_table(a: Table, b: Table) -> bool {
         }
         i += 1;
     }
-    a.n == b.n
+    same_rules(a.rules, b.rules) & (a.n == b.n)
 }

@@ -19,8 +19,9 @@ use Rattle.model.proofs.Tested.{well-formed-tested}
 use Rattle.laws.proofs.Rows.{first-none, rows-passed}
 use Rattle.laws.proofs.Groups.{later-refusal, place-passed}
 use Rattle.laws.proofs.Refusals.{making-accepted}
+use Rattle.laws.proofs.Calls.{rulesAfter}
 use Rattle.invariant.proofs.New.{new-shaped, made-well-formed}
-use Rattle.invariant.proofs.Frames.{next-size, next-store-length}
+use Rattle.invariant.proofs.Frames.{next-size, next-rules, next-store-length}
 use Rattle.invariant.proofs.Keeps.{keeps-shaped, keeps-test}
 use Rattle.core.specs.Runnable.{Checked, Runnable}
 
@@ -53,6 +54,10 @@ keeps-runnable c s a after kept r = subst Runnable (sym (kept .leaves)) (next-ru
 -- and as many threads
 pub keeps-size : (c : Call) (s : State) (a : Answer) (after : State) → Promise c s a after → after .table .n ≡ s .table .n
 keeps-size c s a after kept = ap (λ (u : State). u .table .n) (kept .leaves) ∙ next-size c s
+
+-- and, but for a loading, the same rules
+pub keeps-rules : (c : Call) (s : State) (a : Answer) (after : State) → Promise c s a after → rulesAfter c (s .table .rules) ≡ s .table .rules → after .table .rules ≡ s .table .rules
+keeps-rules c s a after kept same = ap (λ (u : State). u .table .rules) (kept .leaves) ∙ next-rules c s same
 
 -- ---- what the cheap tests give, where the table has passed the check
 module _ (s : State) (formed : wellFormed (s .table) ≡ true) where

@@ -13,6 +13,7 @@ use denote.Shadow.{shadow}
 use Rattle.model.specs.declared.Operation.{Operation}
 use Rattle.model.specs.declared.EntryPoint.the-variants.{Main}
 use Rattle.model.specs.declared.Thread.{Thread}
+use Rattle.model.specs.declared.Rules.{Rules}
 use Rattle.model.specs.declared.Table.{Table}
 use Rattle.model.specs.declared.Answer.{Answer}
 use Rattle.model.specs.declared.Answer.the-variants.{Accepted, Marked, NothingToCancel}
@@ -20,11 +21,11 @@ use Rattle.model.specs.Answers.{replied, said}
 use Rattle.model.specs.Codes.{noReceiver, codeOnly}
 use Rattle.model.specs.Operations.{targetBeyond}
 use Rattle.model.specs.Phases.{lock, look}
-use Rattle.model.specs.Threads.{at, put, edit, editBelow, marked, ended}
+use Rattle.model.specs.Threads.{withRules, at, put, edit, editBelow, marked, ended}
 use Rattle.model.specs.Queues.{joined}
 use Rattle.model.specs.Store.{zeroed}
 use Rattle.model.specs.WellFormed.{Shaped}
-use Rattle.model.specs.Calls.{begun, beginTable, cancelTable, cancelReply, ticked, tickTable, Call, begin, cancel, tick, State, acceptedReply, acceptedState}
+use Rattle.model.specs.Calls.{begun, beginTable, cancelTable, cancelReply, ticked, tickTable, Call, begin, cancel, tick, load, State, acceptedReply, acceptedState}
 use Rattle.model.specs.Refusals.{rowsOf, refusal, tableRows, argumentRows, beginRows, laterRows}
 use Rattle.model.specs.Promise.{state, Promise}
 use Rattle.model.proofs.Laws.{by, and-right}
@@ -184,3 +185,9 @@ module _ (t : Table) where
   pub all-ticked : (now : Table) (i : ℕ) → now ≡ editBelow i ticked t → i ≡ t .n → now ≡ tickTable t
   unfolding tickTable
   all-ticked now i so all = so ∙ ap (λ (k : ℕ). editBelow k ticked t) all
+
+-- ---- loading rules
+-- the promise, whatever the store
+pub load-performed : (rules : Rules) (t : Table) → refusal (load rules) (state t []) ≡ 0 → (store : List ℕ) → Promise (load rules) (state t store) Accepted (state (withRules rules t) store)
+unfolding refusal rowsOf laterRows acceptedReply acceptedState
+load-performed rules t e store = performed (load rules) (state t store) e Accepted (state (withRules rules t) store) refl refl

@@ -12,6 +12,7 @@ use model::Answer;
 use model::Operation;
 use model::Queue;
 use model::Returned;
+use model::Rules;
 use model::Table;
 use model::Thread;
 
@@ -42,9 +43,11 @@ pub fn new_table(n: u8) -> Table
 {
     let h = new_thread();
     let threads = [h; 32];
+    let rules = rules::no_rules();
     Table {
         n: n,
         threads: threads,
+        rules: rules,
     }
 }
 
@@ -153,6 +156,19 @@ pub fn tick(table: Table) -> Returned
         next.threads[i] = threads::tick_thread(h);
         i += 1;
     }
+    Returned {
+        answer: Answer::Accepted,
+        table: next,
+    }
+}
+
+// Rules are loaded.
+pub fn load(table: Table, rules: Rules) -> Returned
+    requires { ⌜ refusal (Call.load rules) (state table []) ≡ 0 ⌝ }
+    ensures { λ r. ⌜ ((store : List ℕ) → Promise (Call.load rules) (state table store) (r .answer) (state (r .table) store)) ⌝ }
+{
+    let mut next = table;
+    next.rules = rules;
     Returned {
         answer: Answer::Accepted,
         table: next,

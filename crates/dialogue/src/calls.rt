@@ -9,6 +9,7 @@ use model::Answer;
 use model::Operation;
 use model::Returned;
 use telling::put_line;
+use telling::put_loaded;
 use telling::put_word;
 
 // The session with the table that a call returned, and its answer.
@@ -34,10 +35,12 @@ pub fn table(session: Session, n: u8, store: &mut [u32], out: &mut [u8]) -> Repl
     }
     fields::spread(store, 0);
     let table = made.table;
+    let noted = session.noted;
     let next = Session {
         table: table,
         words: 8 * (n as usize),
         records: n as usize,
+        noted: noted,
     };
     let end = put_word(out, b"made");
     Reply {
@@ -73,11 +76,8 @@ pub fn step(session: Session, named: &[u32], store: &mut [u32], out: &mut [u8]) 
         end = put_line(out, end, answer);
         i += 1;
     }
-    let next = Session {
-        table: table,
-        words: session.words,
-        records: session.records,
-    };
+    let mut next = session;
+    next.table = table;
     Reply {
         session: next,
         end: end,
@@ -108,4 +108,20 @@ pub fn tick(session: Session, named: &[u32], out: &mut [u8]) -> Reply {
         k += 1;
     }
     returned_line(session, returned, out)
+}
+
+// Loads the rows noted since the last loading, and forgets them, refused or not.
+pub fn rules(session: Session, out: &mut [u8]) -> Reply {
+    let loaded = engine::load(session.table, session.noted);
+    let answer = loaded.answer;
+    let misfit = loaded.misfit;
+    let table = loaded.table;
+    let mut next = session;
+    next.table = table;
+    next.noted.len = 0;
+    let end = put_loaded(out, answer, misfit);
+    Reply {
+        session: next,
+        end: end,
+    }
 }

@@ -12,6 +12,8 @@ use commands::OUTCOME_ROW;
 use commands::Parsed;
 use commands::RECORDS_ROW;
 use commands::REPORT_ROW;
+use commands::RULE_ROW;
+use commands::RULES_ROW;
 use commands::SAY_ROW;
 use commands::SEARCH_ROW;
 use commands::SHOW_ROW;
@@ -22,14 +24,16 @@ use commands::STORE_ROW;
 use commands::TABLE_ROW;
 use commands::TICK_ROW;
 use forcing::byte_at;
+use model::Rules;
 use model::Table;
 use numbers::lesser;
 
-// What a dialogue keeps: a table, how many words are lent as a store, and how many records to the report.
+// What a dialogue keeps: a table, how many words are lent as a store, how many records to the report, and the rows noted for the next loading.
 pub struct Session {
     pub table: Table,
     pub words: usize,
     pub records: usize,
+    pub noted: Rules,
 }
 
 // What is kept after a line, and where its answer ends.
@@ -44,6 +48,7 @@ pub fn new_session() -> Session {
         table: core::new_table(0),
         words: 0,
         records: 0,
+        noted: rules::no_rules(),
     }
 }
 
@@ -71,6 +76,7 @@ fn called(
         SPARK_ROW => calls::spark(session, x, command.op, store, out),
         STEP_ROW => calls::step(session, numbers, store, out),
         CANCEL_ROW => calls::cancel(session, x, out),
+        RULES_ROW => calls::rules(session, out),
         _ => calls::tick(session, numbers, out),
     }
 }
@@ -114,13 +120,14 @@ fn only_prints(row: u8) -> bool {
 
 // Whether a command calls the engine.
 fn calls_engine(row: u8) -> bool {
-    (row <= TICK_ROW) | (row == SPARK_ROW)
+    (row <= TICK_ROW) | (row == SPARK_ROW) | (row == RULES_ROW)
 }
 
-// The commands that lend something, or set it by force.
+// The commands that lend something, note a row of rules, or set something by force.
 fn forced(
     session: Session,
     command: Parsed,
+    number: u64,
     numbers: &[u32],
     store: &mut [u32],
     out: &mut [u8],
@@ -130,6 +137,7 @@ fn forced(
         STORE_ROW => fields::store(session, numbers, store, out),
         RECORDS_ROW => fields::records(session, numbers, out),
         SIZE_ROW => fields::size(session, numbers, out),
+        RULE_ROW => fields::rule(session, number, numbers, out),
         _ => fields::set(session, command, numbers, out),
     }
 }
@@ -165,5 +173,5 @@ pub fn respond(
     if calls_engine(row) {
         return called(session, command, read, store, out);
     }
-    forced(session, command, read, store, out)
+    forced(session, command, number, read, store, out)
 }

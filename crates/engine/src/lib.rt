@@ -5,11 +5,14 @@ ghost use Prim.Native.Nat.{ℕ};
 ghost use Rattle.model.specs.declared.Answer.the-variants.{Refused};
 ghost use Rattle.model.specs.declared.EntryPoint.the-variants.{Main, Spark};
 ghost use Rattle.model.specs.Calls.{Call};
-ghost use Rattle.model.specs.Promise.{state, Promise, MakePromise};
+ghost use Rattle.model.specs.Promise.{state, Promise, MakePromise, loadMisfit};
 use model::Answer;
 use model::EntryPoint;
+use model::Loaded;
+use model::Misfit;
 use model::Operation;
 use model::Returned;
+use model::Rules;
 use model::Table;
 
 // A call that is refused: its number, and the table as it was.
@@ -60,6 +63,11 @@ fn begin_via(
     let third = refusals::begin_refusal(via, table.n, thread, own, op);
     if third != 0 {
         return refuse(third, table);
+    }
+    let rules = table.rules;
+    let fourth = refusals::permit_refusal(table.n, rules, thread, op);
+    if fourth != 0 {
+        return refuse(fourth, table);
     }
     core::begin(table, thread, op, store)
 }
@@ -123,4 +131,36 @@ pub fn tick(table: Table) -> Returned
         return refuse(first, table);
     }
     core::tick(table)
+}
+
+// Rules are loaded: who may send to whom from now on. Refused with 14, it is told which pair does not fit; the store is not touched.
+pub fn load(table: Table, rules: Rules) -> Loaded
+    ensures kept { λ r. ⌜ ((store : List ℕ) → Promise (Call.load rules) (state table store) (r .answer) (state (r .table) store)) ⌝ }
+    ensures misfit { λ r. ⌜ r .misfit ≡ loadMisfit table rules ⌝ }
+{
+    let first = refusals::table_refusal(table);
+    if first != 0 {
+        return Loaded {
+            answer: Answer::Refused(first),
+            misfit: Misfit::Fits,
+            table: table,
+        };
+    }
+    let found = rules::misfit_of(table.n, rules);
+    let unfit = refusals::load_refusal(found);
+    if unfit != 0 {
+        return Loaded {
+            answer: Answer::Refused(unfit),
+            misfit: found,
+            table: table,
+        };
+    }
+    let returned = core::load(table, rules);
+    let answer = returned.answer;
+    let next = returned.table;
+    Loaded {
+        answer: answer,
+        misfit: found,
+        table: next,
+    }
 }

@@ -7,6 +7,7 @@ use native.Mathlib.Omega.{arith}
 use Rattle.model.specs.declared.Thread.{Thread}
 use Rattle.model.specs.declared.Table.{Table}
 use Rattle.model.specs.Phases.{copy, phaseOf, isOneOf}
+use Rattle.model.specs.Rules.{rulesFit}
 use Rattle.model.specs.Threads.{at}
 use Rattle.model.specs.Queues.{senders, ready}
 use Rattle.model.specs.Locks.{lockHeld}
@@ -86,8 +87,8 @@ module _ (t : Table) (w : WellFormed t) (z : Shaped t) where
     copies = copies-read;
   }
 
--- a table of the right size is well-formed if its threads are
-module _ (t : Table) (size : sizeInRange (t .n) ≡ true) (F : Formed (t .n) (at t)) where
+-- a table of the right size is well-formed if its rules and its threads are
+module _ (t : Table) (size : sizeInRange (t .n) ≡ true) (rules : rulesFit (t .n) (t .rules) ≡ true) (F : Formed (t .n) (at t)) where
   -- the clauses of a thread
   own-clauses : (x : ℕ) → x < t .n → OwnClauses (t .n) x (at t x)
   own-clauses x xn = own-ungrouped (t .n) x (at t x) (F .own x xn)
@@ -120,4 +121,5 @@ module _ (t : Table) (size : sizeInRange (t .n) ≡ true) (F : Formed (t .n) (at
     sendClear = λ x xn. own-clauses x xn .sendClear;
     sendSet = λ x xn. own-clauses x xn .sendSet;
     copies = copies-told;
+    rules = rules;
   }

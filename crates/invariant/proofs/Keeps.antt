@@ -10,19 +10,20 @@ use Rattle.model.specs.declared.Thread.{Thread}
 use Rattle.model.specs.declared.Table.{Table}
 use Rattle.model.specs.Lists.{update}
 use Rattle.model.specs.Operations.{targetBeyond}
+use Rattle.model.specs.Rules.{rulesFit}
 use Rattle.model.specs.Threads.{at, edit}
 use Rattle.model.specs.Queues.{joined}
 use Rattle.model.specs.WellFormed.{Shaped, WellFormed, wellFormed}
 use Rattle.model.specs.Step.{decide}
-use Rattle.model.specs.Calls.{ticked, beginTable, tickTable, Call, beginVia, step, cancel, tick, State, acceptedState}
+use Rattle.model.specs.Calls.{ticked, beginTable, tickTable, Call, beginVia, step, cancel, tick, load, State, acceptedState}
 use Rattle.model.specs.Refusals.{refusal}
 use Rattle.model.specs.Promise.{next}
 use Rattle.model.proofs.Tested.{well-formed-tested, well-formed-told}
 use Rattle.laws.proofs.Tables.{edit-at, edit-length, edit-two-at, below-length, act-length}
-use Rattle.laws.proofs.Refusals.{AcceptedBegin, accepted-table, accepted-begin, accepted-step, accepted-cancel}
-use Rattle.laws.proofs.Calls.{accepted?, accepted-next, refused-next, begin-cases, cancel-cases}
+use Rattle.laws.proofs.Refusals.{AcceptedBegin, accepted-table, accepted-begin, accepted-step, accepted-cancel, accepted-load}
+use Rattle.laws.proofs.Calls.{accepted?, accepted-next, refused-next, begin-cases, cancel-cases, rulesAfter}
 use Rattle.formed.proofs.Formed.{Formed, formed-grouped, formed-ungrouped}
-use Rattle.invariant.proofs.Frames.{next-size}
+use Rattle.invariant.proofs.Frames.{next-size, accepted-rules}
 use Rattle.invariant.proofs.Steps.{step-keeps}
 use Rattle.invariant.proofs.Begins.{CanBegin, begin-send-keeps, begin-receive-keeps, begin-beyond-keeps, cancel-keeps, tick-keeps}
 
@@ -58,7 +59,7 @@ begin-kept x o s b whole F = let t = s .table in begin-cases x o t (Kept (t .n))
 
 -- every accepted call
 accepted-keeps : (c : Call) (s : State) → refusal c s ≡ 0 → length (s .table .threads) ≡ 32 → Formed (s .table .n) (at (s .table)) → Kept (s .table .n) (acceptedState c s .table)
-unfolding acceptedState tickTable
+unfolding acceptedState tickTable at
 accepted-keeps (beginVia via x o) s e whole F = begin-kept x o s (accepted-begin via x o s e) whole F
 accepted-keeps (step x) s e whole F = record {
   whole = act-length (decide (s .table) x) x (s .table) ∙ whole;
@@ -71,6 +72,15 @@ accepted-keeps tick s e whole F = record {
   whole = below-length ticked (s .table) (s .table .n) ∙ whole;
   formed = tick-keeps (s .table) whole F (s .table .n) (omega arith);
 }
+accepted-keeps (load rules) s e whole F = record { whole = whole; formed = F }
+
+-- rules that fit before an accepted call, or are loaded by it, fit after it
+rules-kept : (c : Call) (s : State) → refusal c s ≡ 0 → rulesFit (s .table .n) (s .table .rules) ≡ true → rulesFit (s .table .n) (rulesAfter c (s .table .rules)) ≡ true
+rules-kept (beginVia via x o) s e fit = fit
+rules-kept (step x) s e fit = fit
+rules-kept (cancel x) s e fit = fit
+rules-kept tick s e fit = fit
+rules-kept (load rules) s e fit = accepted-load rules s e
 
 -- ---- every call, refused or not
 module _ (c : Call) (s : State) where
@@ -88,10 +98,14 @@ module _ (c : Call) (s : State) where
       (λ e. let k = accepted-kept z e in record { threads = k .whole; queues = λ x xn. k .formed .own x (rw (next-size c s) at xn) .items })
       (λ g e. rw (refused-next c s g e) z)
 
+  -- its rules fit
+  rules-fit : refusal c s ≡ 0 → WellFormed (s .table) → rulesFit (next c s .table .n) (next c s .table .rules) ≡ true
+  rules-fit e w = rw (next-size c s, accepted-next c s e, accepted-rules c s) (rules-kept c s e (w .rules))
+
   -- a well-formed table stays well-formed; that its arrays have their places is asked because a sender that joins a queue is put into one
   pub keeps-well-formed : Shaped (s .table) → WellFormed (s .table) → WellFormed (next c s .table)
   keeps-well-formed z w = accepted? c s
-      (λ e. formed-ungrouped (next c s .table) (rw (next-size c s) (w .size)) (rw (next-size c s) (accepted-kept z e .formed)))
+      (λ e. formed-ungrouped (next c s .table) (rw (next-size c s) (w .size)) (rules-fit e w) (rw (next-size c s) (accepted-kept z e .formed)))
       (λ g e. rw (refused-next c s g e) w)
 
   -- as the test has it, which every call computes

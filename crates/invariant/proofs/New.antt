@@ -11,6 +11,7 @@ use Rattle.model.specs.declared.Thread.{Thread}
 use Rattle.model.specs.Lists.{implies, allOf, occurs}
 use Rattle.model.specs.Codes.{nobody}
 use Rattle.model.specs.Phases.{isOneOf, phaseOf}
+use Rattle.model.specs.Rules.{noRules, rulesFit}
 use Rattle.model.specs.Threads.{newThread, newTable, zeroThread, at}
 use Rattle.model.specs.Queues.{senders}
 use Rattle.model.specs.Locks.{lockHeld}
@@ -73,6 +74,16 @@ module _ (n : ℕ) (few : n ≤ 32) where
   unfolding newThread newTable
   new-shaped = record { threads = length-replicate 32 newThread; queues = λ x l. rw (new-below x l) refl }
 
+-- a new table has no rules
+pub new-rules : (n : ℕ) → newTable n .rules .len ≡ 0
+unfolding newTable noRules
+new-rules n = refl
+
+-- so they fit
+new-fit : (n : ℕ) → rulesFit (newTable n .n) (newTable n .rules) ≡ true
+unfolding rulesFit
+new-fit n = rw (new-rules n) refl
+
 -- a new table of 1 to 32 threads is well-formed
 pub new-well-formed : (n : ℕ) → 1 ≤ n → n ≤ 32 → WellFormed (newTable n)
 unfolding newThread implies allOf occurs sizeInRange inPhase isOneOf isCode nobodyOrBelow numbersInRange ipcWithRunning bareUnlessDone notWithItself sendAndMarkWithIpc pollWithSend receivingWithPart ipcWithoutSend idleWithoutFlags releaseHasTarget receiversSendClear sendersSendSet copiesToReady
@@ -97,6 +108,7 @@ new-well-formed n some few = let size = new-size n in record {
   sendClear = new-each n few (λ x h. receiversSendClear h) (λ x. refl);
   sendSet = new-each n few (λ x h. sendersSendSet h) (λ x. refl);
   copies = new-each n few (copiesToReady (newTable n)) (λ x. refl);
+  rules = new-fit n;
 }
 
 -- ---- making a table

@@ -19,7 +19,7 @@ use Rattle.model.specs.Queues.{joined}
 use Rattle.model.specs.Store.{wordsAt, wordCopied}
 use Rattle.model.specs.WellFormed.{inPhase, sendInRange, numbersInRange, sendAndMarkWithIpc, sendersSendSet, Shaped, WellFormed}
 use Rattle.model.specs.Step.{copyWord, decide, otherAfter, act, storeAfter}
-use Rattle.model.specs.Calls.{ticked, beginTable, cancelTable, tickTable, Call, beginVia, step, cancel, tick, State, acceptedState}
+use Rattle.model.specs.Calls.{ticked, beginTable, cancelTable, tickTable, Call, beginVia, step, cancel, tick, load, State, acceptedState}
 use Rattle.model.specs.Refusals.{refusal}
 use Rattle.model.specs.Promise.{next}
 use Rattle.model.proofs.Laws.{same?, implies-read, all-of-read}
@@ -68,6 +68,7 @@ accepted-beyond (beginVia via x o) s z e y l = begin-beyond x o (s .table) (acce
 accepted-beyond (step x) s z e y l = step-beyond x (s .table) (z .threads) (found-formed (step x) s z e) (accepted-step x s e .below) y l
 accepted-beyond (cancel x) s z e y l = cancel-beyond x (s .table) (accepted-cancel x s e .below) y l
 accepted-beyond tick s z e y l = below-beyond ticked (s .table) (s .table .n) y l
+accepted-beyond (load rules) s z e y l = unfold at in refl
 
 -- no call changes a thread that is not in use; the arrays' lengths are asked because `Formed`, which tells that a step's other thread is in
 -- the table, has them
@@ -113,6 +114,7 @@ accepted-words (step x) s e y = ⊎-elim
     (step-store (decide (s .table) x) (at (s .table) x) (s .store))
 accepted-words (cancel x) s e y = inl refl
 accepted-words tick s e y = inl refl
+accepted-words (load rules) s e y = inl refl
 
 -- no other call changes them
 pub next-words : (c : Call) (s : State) (y : ℕ) → (wordsAt (next c s .store) y ≡ wordsAt (s .store) y) ⊎ Writes s y c

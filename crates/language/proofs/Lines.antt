@@ -12,7 +12,7 @@ use Rattle.model.specs.Threads.{noOperation}
 use Rattle.model.specs.Lists.{concat}
 use Rattle.model.specs.Bondtrace.{ascii}
 use Rattle.language.specs.Grammar.{firstField}
-use Rattle.language.specs.Commands.{Command, skipped, wrong, asked, commandOf, noCommand, noField, noPart, missing, notNumber, tooLarge, tooSmall, tooMuch, tooLong}
+use Rattle.language.specs.Commands.{Command, skipped, wrong, asked, commandOf, noCommand, noField, noPart, missing, notNumber, tooLarge, tooSmall, tooMuch, tooLong, noChoice}
 use Rattle.language.proofs.Computing.{computing}
 
 -- a line, and the command that it is
@@ -38,6 +38,7 @@ pub data Name : Type 0 where
   nothing-begun an-open-wait a-call nine-words closed-wait neither-part too-much-behind flags not-a-flag code-below-zero sign-elsewhere only-a-sign field-missing no-field thread-missing : Name
   thread-past-the-array a-search searches-of-two a-spark spark-of-nobody : Name
   a-set largest-set above-a-set set-of-a-list set-of-nothing some-partners same-partner-twice partner-not-below-32 partner-of-letters any-and-more nobody-between-commas nobody-behind-a-comma partners-and-more : Name
+  a-rule rule-that-forbids rule-of-neither rule-of-a-prefix rule-undecided rule-of-three rule-and-more all-rules rules-of-one : Name
 
 -- the line and the command of each
 unfoldable pub row : Name → LineRow
@@ -103,6 +104,15 @@ row any-and-more = refuses "begin 1 receive any,1 15" notNumber "any"
 row nobody-between-commas = refuses "begin 1 receive 1,,2 15" notNumber ""
 row nobody-behind-a-comma = refuses "begin 1 receive 1, 15" notNumber ""
 row partners-and-more = refuses "begin 1 receive 1,2 15 3" tooMuch "3"
+row a-rule = asks "rule 0 255 3 2 yes" 16 (0 ∷ 255 ∷ 3 ∷ 2 ∷ 1 ∷ [])
+row rule-that-forbids = asks "rule 00 1 2 3 no" 16 (0 ∷ 1 ∷ 2 ∷ 3 ∷ 0 ∷ [])
+row rule-of-neither = refuses "rule 0 1 2 3 1" noChoice "1"
+row rule-of-a-prefix = refuses "rule 0 1 2 3 ye" noChoice "ye"
+row rule-undecided = refuses "rule 0 1 2 3" noChoice ""
+row rule-of-three = refuses "rule 0 1 2 yes" notNumber "yes"
+row rule-and-more = refuses "rule 0 1 2 3 yes no" tooMuch "no"
+row all-rules = asks "rules" 17 []
+row rules-of-one = refuses "rules 3" tooMuch "3"
 
 -- each line is the command that stands beside it
 pub lines-read : (n : Name) → commandOf (ascii (row n .line)) ≡ row n .command
@@ -157,6 +167,15 @@ lines-read any-and-more = refl
 lines-read nobody-between-commas = refl
 lines-read nobody-behind-a-comma = refl
 lines-read partners-and-more = refl
+lines-read a-rule = refl
+lines-read rule-that-forbids = refl
+lines-read rule-of-neither = refl
+lines-read rule-of-a-prefix = refl
+lines-read rule-undecided = refl
+lines-read rule-of-three = refl
+lines-read rule-and-more = refl
+lines-read all-rules = refl
+lines-read rules-of-one = refl
 
 -- ---- lines that are too long to stand in a row
 -- "Words past the eighth are counted, to any number (300 words are refused 9 and do not wrap round), and not kept": the count stays at 255

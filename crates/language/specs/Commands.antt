@@ -15,7 +15,7 @@ use Rattle.model.specs.Threads.{noOperation}
 use Rattle.model.specs.Refusals.{Row, firstRefusal, unless}
 use Rattle.model.specs.Bondtrace.{ascii}
 use Rattle.language.specs.Words.{words, withoutReturn, sameWord, hasComma, pieces, isNumber, value}
-use Rattle.language.specs.Grammar.{rows, firstField, setRow, findRow, numberLetters, restLetter, largest, least, takesSign, mostMore}
+use Rattle.language.specs.Grammar.{rows, firstField, setRow, findRow, numberLetters, restLetter, largest, least, takesSign, takesChoice, mostMore}
 
 -- ---- reasons: why a line is no command
 abbrev pub noCommand : ℕ
@@ -52,6 +52,13 @@ notRecord = 10
 abbrev pub tableFirst : ℕ
 tableFirst = 11
 
+-- why a row of rules is none, or is not kept
+abbrev pub noChoice : ℕ
+noChoice = 12
+
+abbrev pub rowsFull : ℕ
+rowsFull = 13
+
 -- the reasons in plain words
 unfoldable pub reasons : List (List ℕ)
 reasons =
@@ -67,6 +74,8 @@ reasons =
     ∷ ascii "line too long"
     ∷ ascii "no line of a schedule"
     ∷ ascii "table stands first, and only there"
+    ∷ ascii "neither yes nor no"
+    ∷ ascii "no more than 80 rows are kept"
     ∷ []
 
 -- one of them
@@ -78,14 +87,22 @@ reasonText reason = getD reasons reason []
 unfoldable pub isNegative : ℕ → List ℕ → Bool
 isNegative letter word = takesSign letter && eqb (getD word 0 0) (code "-")
 
+-- `yes` and `no` as digits; no other word has any there
+unfoldable pub choiceDigits : List ℕ → List ℕ
+choiceDigits word = cond (sameWord word (ascii "yes")) (ascii "1") (cond (sameWord word (ascii "no")) (ascii "0") [])
+
 -- the digits of a number
 unfoldable pub digitsOf : ℕ → List ℕ → List ℕ
-digitsOf letter word = cond (isNegative letter word) (drop 1 word) word
+digitsOf letter word = cond (takesChoice letter) (choiceDigits word) (cond (isNegative letter word) (drop 1 word) word)
+
+-- a reason why a number is none; of `yes` or `no` that it is neither
+unfoldable pub reasonFor : ℕ → ℕ → ℕ
+reasonFor letter reason = cond (takesChoice letter) noChoice reason
 
 -- the reason why digits are not such a number, or 0
 unfoldable pub wrongDigits : ℕ → List ℕ → ℕ
 wrongDigits letter digits = firstRefusal (
-    record { when = not (isNumber digits); number = notNumber }
+    record { when = not (isNumber digits); number = reasonFor letter notNumber }
     ∷ record { when = ltb (largest letter) (value digits); number = tooLarge }
     ∷ record { when = ltb (value digits) (least letter); number = tooSmall }
     ∷ []
@@ -109,7 +126,7 @@ pub data Progress : Type 0 where
 -- one number more
 unfoldable pub readNumber : ℕ → Progress → Progress
 readNumber letter (stopped reason word) = stopped reason word
-readNumber letter (reached numbers []) = stopped missing []
+readNumber letter (reached numbers []) = stopped (reasonFor letter missing) []
 readNumber letter (reached numbers (word ∷ left)) = unless (wrongNumber letter word) (λ reason. stopped reason word) (reached (numbers ++ kept letter word) left)
 
 -- a number for each letter

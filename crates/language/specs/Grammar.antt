@@ -28,6 +28,8 @@ grammar = concat (
     ∷ ascii "set         t      f\n"
     ∷ ascii "search      b      .\n"
     ∷ ascii "spark       b      p\n"
+    ∷ ascii "rule        bbbby  .\n"
+    ∷ ascii "rules              .\n"
     ∷ ascii "flags       11111  .\n"
     ∷ ascii "phase       b      .\n"
     ∷ ascii "left        n      .\n"
@@ -55,11 +57,11 @@ mostNumbers = 7
 
 -- the rows before this are commands, the others are fields
 abbrev pub firstField : ℕ
-firstField = 16
+firstField = 18
 
 -- how many rows there are
 abbrev pub rows : ℕ
-rows = 28
+rows = 30
 
 -- `set`, the command whose second word is a field
 abbrev pub setRow : ℕ
@@ -111,6 +113,10 @@ least letter = cond (eqb letter (code "k")) 1 0
 -- "Only an outcome's code may have a `-`"
 unfoldable pub takesSign : ℕ → Bool
 takesSign letter = eqb letter (code "c")
+
+-- "`yes` or `no`", kept as 1 or 0
+unfoldable pub takesChoice : ℕ → Bool
+takesChoice letter = eqb letter (code "y")
 
 -- how many more numbers may follow: one, a queue, as many as a line can have, or none
 unfoldable pub mostMore : ℕ → ℕ

@@ -1,4 +1,4 @@
--- What a call answers and leaves in each of its cases: refused and not, the three of begin and the two of cancel.
+-- What a call answers and leaves in each of its cases: refused and not, the three of begin and the two of cancel; and which rules are loaded then.
 use mathlib.Core.Path.{_≡_, refl, sym, _∙_, subst}
 use mathlib.Core.Bool.{true, false, _&&_}
 use mathlib.Core.Option.{none}
@@ -7,6 +7,7 @@ use native.Mathlib.Omega.{arith}
 use lib.Dec.{leb}
 use borrow.Author.Tests.{leb-false}
 use Rattle.model.specs.declared.Operation.{Operation}
+use Rattle.model.specs.declared.Rules.{Rules}
 use Rattle.model.specs.declared.Table.{Table}
 use Rattle.model.specs.declared.Answer.{Answer}
 use Rattle.model.specs.Answers.{Reply, nothingToCancel, refused, replied, said}
@@ -15,7 +16,7 @@ use Rattle.model.specs.Operations.{targetBeyond}
 use Rattle.model.specs.Phases.{lock, look}
 use Rattle.model.specs.Threads.{at, edit, marked, ended}
 use Rattle.model.specs.Queues.{joined}
-use Rattle.model.specs.Calls.{begun, beginTable, cancelTable, cancelReply, Call, State, acceptedReply, acceptedState}
+use Rattle.model.specs.Calls.{begun, beginTable, cancelTable, cancelReply, Call, beginVia, step, cancel, tick, load, State, acceptedReply, acceptedState}
 use Rattle.model.specs.Refusals.{unless, refusal}
 use Rattle.model.specs.Promise.{answer, next, Promise}
 use Rattle.model.specs.Linearized.{acceptedEntry, entry}
@@ -138,3 +139,12 @@ module _ (x : ℕ) (t : Table) where
   -- what holds in both cases holds of a cancel
   pub cancel-cases {ℓ} : (P : Table → Type ℓ) → (at t x .flags .ipc ≡ true → P (edit x marked t)) → (at t x .flags .ipc ≡ false → P t) → P (cancelTable x t)
   cancel-cases P runs over = by (at t x .flags .ipc) (λ e. subst P (sym (cancel-marks e)) (runs e)) (λ e. subst P (sym (cancel-nothing e)) (over e))
+
+-- ---- loadings
+-- the rules after an accepted call: a loading's own, else as they were
+abbrev pub rulesAfter : Call → Rules → Rules
+rulesAfter (beginVia via x o) rules = rules
+rulesAfter (step x) rules = rules
+rulesAfter (cancel x) rules = rules
+rulesAfter tick rules = rules
+rulesAfter (load loaded) rules = loaded

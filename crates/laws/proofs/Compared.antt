@@ -6,7 +6,7 @@ use mathlib.Core.List.{List, [], _∷_}
 use Prim.Native.Nat.{ℕ}
 use borrow.Author.Tests.{eq-eqb}
 use Rattle.model.specs.Answers.{Said, refused, replied}
-use Rattle.model.specs.Calls.{Call, beginVia, step, cancel, tick}
+use Rattle.model.specs.Calls.{Call, beginVia, step, cancel, tick, load}
 use Rattle.model.specs.Codes.{View}
 use Rattle.model.specs.Atomic.{Machine, begins, cancels, ticks, rendezvous, aborts}
 use Rattle.model.specs.Linearization.{Entry, AtCall}
@@ -27,6 +27,7 @@ placed-tested (step x) (replied a) (some (rendezvous s r)) p h = refl
 placed-tested (step x) (replied a) (some (aborts y c)) p h = refl
 placed-tested (cancel x) (replied a) e p h = rw (h .event) (eq-eqb _ _ (ap replyNumber (h .answer)))
 placed-tested tick (replied a) e p h = rw (h .event) (eq-eqb _ _ (ap replyNumber (h .answer)))
+placed-tested (load rules) (replied a) e p h = rw h refl
 
 -- ---- views
 -- words are the same as themselves

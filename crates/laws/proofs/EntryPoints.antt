@@ -10,7 +10,7 @@ use Rattle.model.specs.declared.EntryPoint.the-variants.{Main, Spark}
 use Rattle.model.specs.declared.Answer.{Answer}
 use Rattle.model.specs.Operations.{wordLimit, sparkLimit}
 use Rattle.model.specs.Calls.{beginVia, begin, sparkBegin, State, acceptedReply, acceptedState}
-use Rattle.model.specs.Refusals.{firstRefusal, moreWords, tooManyWords, tableRows, argumentRows, beginRows, laterRows, rowsOf, refusal}
+use Rattle.model.specs.Refusals.{firstRefusal, moreWords, tooManyWords, tableRows, argumentRows, unruledRows, beginRows, laterRows, rowsOf, refusal}
 use Rattle.model.specs.Promise.{answer, next, Promise, FewWords, SameThroughEither}
 use Rattle.model.proofs.Laws.{by}
 use Rattle.model.proofs.Answers.{said-settles}
@@ -28,7 +28,7 @@ few-words limit o l few = by (o .send .present)
 module _ (x : ℕ) (o : Operation) (s : State) (few : FewWords o) where
   -- is refused alike
   same-refusal : refusal (sparkBegin x o) s ≡ refusal (begin x o) s
-  unfolding refusal rowsOf tableRows argumentRows laterRows beginRows tooManyWords firstRefusal
+  unfolding refusal rowsOf tableRows argumentRows laterRows unruledRows beginRows tooManyWords firstRefusal
   same-refusal = rw (few-words sparkLimit o (omega arith) few, few-words wordLimit o (omega arith) few) refl
 
   -- answers alike

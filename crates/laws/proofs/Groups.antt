@@ -1,21 +1,24 @@
 -- The number by which a call is refused, group of rows by group, and what is known where a group refuses nothing.
 use mathlib.Core.Path.{_≡_, refl, sym, _∙_, ap}
 use mathlib.Core.Logic.{_≢_}
-use mathlib.Core.Bool.{true, not}
+use mathlib.Core.Bool.{true, not, _&&_, and-false}
 use mathlib.Core.List.{List, [], _∷_, _++_}
 use Prim.Native.Nat.{ℕ, _*_, _≤_, _<_}
 use lib.ListN.{length}
-use lib.Dec.{eqb}
+use lib.Dec.{eqb, ltb}
 use borrow.Author.Tests.{leb-false, lt-leb, eqb-true, eq-eqb, not-false}
 use Rattle.model.specs.declared.Operation.{Operation}
 use Rattle.model.specs.declared.EntryPoint.{EntryPoint}
+use Rattle.model.specs.declared.EntryPoint.the-variants.{Main, Spark}
 use Rattle.model.specs.declared.Table.{Table}
+use Rattle.model.specs.Rules.{permits, rowLimit}
 use Rattle.model.specs.WellFormed.{wellFormed}
 use Rattle.model.specs.Calls.{Call, beginVia, State}
-use Rattle.model.specs.Refusals.{Row, firstRefusal, badSize, notWellFormed, noThread, badLength, tableRows, argumentRows, beginRows, laterRows, rowsOf, refusal}
+use Rattle.model.specs.Refusals.{Row, firstRefusal, badSize, notWellFormed, noThread, badLength, lockOwned, notIdle, neitherPart, withItself, noPartner, noMember, tooManyWords, badTime, notPermitted, tableRows, argumentRows, unruledRows, beginRows, laterRows, rowsOf, refusal}
 use Rattle.model.proofs.Laws.{_and_}
 use Rattle.model.proofs.Tested.{well-formed-told, formed-few}
-use Rattle.laws.proofs.Rows.{NoneHolds, numbered, none-holds, rows-passed, group-refuses, group-passes}
+use Rattle.laws.proofs.Rules.{fitting-few}
+use Rattle.laws.proofs.Rows.{NoneHolds, numbered, none-holds, first-none, first-later, rows-passed, nothing-behind, group-refuses, group-passes}
 
 -- ---- the rows on the table
 -- they have numbers
@@ -32,6 +35,10 @@ module _ (t : Table) where
   -- and has at most 32 threads
   pub table-few : (f : ℕ) → f ≡ firstRefusal (tableRows t) → f ≡ 0 → t .n ≤ 32
   table-few f rows z = formed-few t (table-formed f rows z)
+
+  -- and at most 64 rows of rules
+  pub table-few-rules : (f : ℕ) → f ≡ firstRefusal (tableRows t) → f ≡ 0 → t .rules .len ≤ rowLimit
+  table-few-rules f rows z = fitting-few (t .n) (t .rules) (well-formed-told t (table-formed f rows z) .rules)
 
   -- on a well-formed table none holds
   formed-rows : wellFormed t ≡ true → NoneHolds (tableRows t)
@@ -93,6 +100,30 @@ module _ (t : Table) (x words : ℕ) where
 pub number-below : (t : Table) (x f : ℕ) → f ≡ firstRefusal (noThread t x ∷ []) → f ≡ 0 → x < t .n
 unfolding noThread
 number-below t x f e z = leb-false (t .n) x (none-holds (noThread t x ∷ []) refl (sym e ∙ z) .0)
+
+-- ---- the rows on a thread that begins, on its operation and on the rules
+-- those before the rules have numbers
+unruled-numbered : (via : EntryPoint) (t : Table) (x : ℕ) (o : Operation) → numbered (unruledRows via t x o) ≡ true
+unfolding unruledRows lockOwned notIdle neitherPart withItself noPartner noMember tooManyWords badTime
+unruled-numbered Main t x o = refl
+unruled-numbered Spark t x o = refl
+
+module _ (via : EntryPoint) (t : Table) (x : ℕ) (o : Operation) where
+  -- one of them refuses, whatever the rules
+  pub before-rules : (g : ℕ) → g ≡ firstRefusal (unruledRows via t x o) → g ≢ 0 → g ≡ firstRefusal (beginRows via t x o)
+  unfolding beginRows
+  before-rules = group-refuses (unruledRows via t x o) (notPermitted t x o ∷ [])
+
+  -- where none of them holds, the rules decide
+  pub then-rules : (f g : ℕ) → f ≡ firstRefusal (unruledRows via t x o) → f ≡ 0 → g ≡ firstRefusal (notPermitted t x o ∷ []) → g ≡ firstRefusal (beginRows via t x o)
+  unfolding beginRows
+  then-rules f g = group-passes (unruledRows via t x o) (notPermitted t x o ∷ []) f g (unruled-numbered via t x o)
+
+  -- where no rules are loaded, they say nothing
+  pub without-rules : t .rules .len ≡ 0 → firstRefusal (beginRows via t x o) ≡ firstRefusal (unruledRows via t x o)
+  unfolding beginRows notPermitted permits
+  without-rules none = nothing-behind (unruledRows via t x o) (notPermitted t x o ∷ [])
+      (first-later (notPermitted t x o) [] (rw none (and-false (o .send .present && ltb (o .send .target) (t .n)))) ∙ first-none)
 
 -- ---- the rows of a begin
 module _ (via : EntryPoint) (x : ℕ) (o : Operation) (s : State) where

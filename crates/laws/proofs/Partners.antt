@@ -14,7 +14,7 @@ use Rattle.model.specs.declared.EntryPoint.{EntryPoint}
 use Rattle.model.specs.declared.EntryPoint.the-variants.{Main, Spark}
 use Rattle.model.specs.Operations.{accepts, closedOn, closedBeyond, emptySet}
 use Rattle.model.specs.Calls.{beginVia, State}
-use Rattle.model.specs.Refusals.{refusal, rowsOf, tableRows, argumentRows, beginRows, laterRows, neitherPart, withItself, noPartner, noMember, tooManyWords, moreWords, badTime}
+use Rattle.model.specs.Refusals.{refusal, rowsOf, tableRows, argumentRows, unruledRows, beginRows, laterRows, neitherPart, withItself, noPartner, noMember, tooManyWords, moreWords, badTime, notPermitted}
 
 -- the set with one member, and the same time
 abbrev pub asSet : Wait → Receive
@@ -35,6 +35,6 @@ waiting send receive = record { send = send; receive = receive }
 
 -- and a begin is refused by the same number, or accepted
 pub same-refusal : (via : EntryPoint) (x : ℕ) (send : SendPart) (w : Wait) (s : State) → refusal (beginVia via x (waiting send (Closed w))) s ≡ refusal (beginVia via x (waiting send (asSet w))) s
-unfolding refusal rowsOf tableRows argumentRows beginRows laterRows neitherPart withItself noPartner noMember tooManyWords moreWords badTime closedOn closedBeyond
+unfolding refusal rowsOf tableRows argumentRows unruledRows beginRows laterRows neitherPart withItself noPartner noMember tooManyWords moreWords badTime notPermitted closedOn closedBeyond
 same-refusal Main x send w s = rw (set-there w) refl
 same-refusal Spark x send w s = rw (set-there w) refl

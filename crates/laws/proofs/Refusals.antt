@@ -1,7 +1,7 @@
 -- What a call that is not refused has been tested for.
 use mathlib.Core.Path.{ap, _≡_, refl}
 use mathlib.Core.Logic.{_≢_}
-use mathlib.Core.Bool.{true, false, not, _&&_, _||_}
+use mathlib.Core.Bool.{true, false, not, _&&_, _||_, or-true}
 use mathlib.Core.List.{[], _∷_}
 use Prim.Native.Nat.{ℕ, _*_, _≤_, _<_}
 use native.Mathlib.Omega.{arith}
@@ -12,15 +12,17 @@ use Rattle.model.specs.declared.Receive.{Receive}
 use Rattle.model.specs.declared.Operation.{Operation}
 use Rattle.model.specs.declared.EntryPoint.{EntryPoint}
 use Rattle.model.specs.declared.EntryPoint.the-variants.{Main, Spark}
+use Rattle.model.specs.declared.Rules.{Rules}
 use Rattle.model.specs.Codes.{nobody}
 use Rattle.model.specs.Operations.{wordLimit, sparkLimit, hasReceive, receiveTime, closedOn, targetBeyond, closedBeyond, emptySet}
 use Rattle.model.specs.Times.{isTimeCode}
 use Rattle.model.specs.Phases.{idle, phaseOf}
+use Rattle.model.specs.Rules.{misfit, isFit, rulesFit}
 use Rattle.model.specs.Threads.{at}
 use Rattle.model.specs.Locks.{lockFree}
 use Rattle.model.specs.WellFormed.{sizeInRange, inPhase, sendInRange, receiveInRange, wellFormed}
-use Rattle.model.specs.Calls.{Call, beginVia, sparkBegin, step, cancel, tick, State}
-use Rattle.model.specs.Refusals.{firstRefusal, badSize, notWellFormed, noThread, badLength, lockOwned, notIdle, neitherPart, withItself, noPartner, noMember, moreWords, tooManyWords, badTime, rowsOf, refusal, makeRefusal, outcomeRefusal, tableRows, argumentRows, beginRows, laterRows}
+use Rattle.model.specs.Calls.{Call, beginVia, sparkBegin, step, cancel, tick, load, State}
+use Rattle.model.specs.Refusals.{firstRefusal, badSize, notWellFormed, noThread, badLength, lockOwned, notIdle, neitherPart, withItself, noPartner, noMember, moreWords, tooManyWords, badTime, notPermitted, badRules, rowsOf, refusal, makeRefusal, outcomeRefusal, tableRows, argumentRows, unruledRows, beginRows, laterRows}
 use Rattle.model.specs.Promise.{FewWords}
 use Rattle.model.proofs.Laws.{implies-made, _and_, all-of-made}
 use Rattle.model.proofs.Numbers.{size-read, size-made}
@@ -31,12 +33,13 @@ use Rattle.laws.proofs.Lists.{or-left, or-right, second-fails}
 
 -- the rows of every call have numbers
 rows-numbered : (c : Call) (s : State) → numbered (rowsOf c s) ≡ true
-unfolding rowsOf tableRows argumentRows beginRows laterRows badSize notWellFormed noThread badLength lockOwned notIdle neitherPart withItself noPartner noMember tooManyWords badTime
+unfolding rowsOf tableRows argumentRows unruledRows beginRows laterRows badSize notWellFormed noThread badLength lockOwned notIdle neitherPart withItself noPartner noMember tooManyWords badTime notPermitted badRules
 rows-numbered (beginVia Main x o) s = refl
 rows-numbered (beginVia Spark x o) s = refl
 rows-numbered (step x) s = refl
 rows-numbered (cancel x) s = refl
 rows-numbered tick s = refl
+rows-numbered (load rules) s = refl
 
 -- of a call that is not refused no row holds
 pub accepted-rows : (c : Call) (s : State) → refusal c s ≡ 0 → NoneHolds (rowsOf c s)
@@ -118,9 +121,9 @@ words-fit Spark o few i = omega (arith, within-limit sparkLimit o few i)
 
 -- what a begin that is not refused has been tested for, whatever its entry
 pub accepted-begin : (via : EntryPoint) (x : ℕ) (o : Operation) (s : State) → refusal (beginVia via x o) s ≡ 0 → AcceptedBegin s x o
-unfolding rowsOf tableRows argumentRows beginRows laterRows noThread badLength lockOwned notIdle neitherPart withItself noPartner noMember badTime
+unfolding rowsOf tableRows argumentRows unruledRows beginRows laterRows noThread badLength lockOwned notIdle neitherPart withItself noPartner noMember badTime
 accepted-begin via x o s e =
-    let (size, (formed, (below, (store, (free, (inIdle, (part, (itself, (partner, (named, (words, (time, end)))))))))))) = accepted-rows (beginVia via x o) s e in
+    let (size, (formed, (below, (store, (free, (inIdle, (part, (itself, (partner, (named, (words, (time, later)))))))))))) = accepted-rows (beginVia via x o) s e in
     let toItself = o .send .present && eqb (o .send .target) x in
     let badSend = o .send .present && not (isTimeCode (o .send .time)) in
     let badWait = hasReceive (o .receive) && not (isTimeCode (receiveTime (o .receive))) in
@@ -140,10 +143,17 @@ accepted-begin via x o s e =
 
 -- through the spark entry also for at most three words
 pub spark-words : (x : ℕ) (o : Operation) (s : State) → refusal (sparkBegin x o) s ≡ 0 → FewWords o
-unfolding rowsOf tableRows argumentRows beginRows laterRows tooManyWords
+unfolding rowsOf tableRows argumentRows unruledRows beginRows laterRows tooManyWords
 spark-words x o s e =
     let (size, (formed, (below, (store, (free, (inIdle, (part, (itself, (partner, (named, (words, later))))))))))) = accepted-rows (sparkBegin x o) s e in
     within-limit sparkLimit o words
+
+-- the rules of a loading that is not refused fit
+pub accepted-load : (rules : Rules) (s : State) → refusal (load rules) s ≡ 0 → rulesFit (s .table .n) rules ≡ true
+unfolding rowsOf tableRows laterRows badRules rulesFit
+accepted-load rules s e =
+    let (size, (formed, (fit, end))) = accepted-rows (load rules) s e in
+    rw (not-false (isFit (misfit (s .table .n) rules)) fit) (or-true (eqb (rules .len) 0))
 
 -- ---- making a table
 -- a making that is not refused is of 1 to 32 threads

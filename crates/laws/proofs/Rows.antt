@@ -65,6 +65,14 @@ first-of-group (row ∷ a) b g e = by (row .when)
     (λ i. first-here row (a ++ b) i ∙ sym (first-here row a i) ∙ e)
     (λ i. first-later row (a ++ b) i ∙ first-of-group a b g (sym (first-later row a i) ∙ e))
 
+-- rows behind others that do not hold themselves say nothing
+pub nothing-behind : (a b : List Row) → firstRefusal b ≡ 0 → firstRefusal (a ++ b) ≡ firstRefusal a
+unfolding firstRefusal
+nothing-behind [] b e = e
+nothing-behind (row ∷ a) b e = by (row .when)
+    (λ i. first-here row (a ++ b) i ∙ sym (first-here row a i))
+    (λ i. first-later row (a ++ b) i ∙ nothing-behind a b e ∙ sym (first-later row a i))
+
 -- a number of the first group that is not 0 is that of the whole
 pub group-refuses : (a b : List Row) (g : ℕ) → g ≡ firstRefusal a → g ≢ 0 → g ≡ firstRefusal (a ++ b)
 group-refuses a b g e d = zero-or-not g (λ z. absurd (d z)) (λ k is. is ∙ sym (first-of-group a b k (sym e ∙ is)))

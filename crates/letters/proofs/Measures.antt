@@ -1,5 +1,6 @@
 -- A number by its letter: bounds of its largest and its least, and what is found of the digits of a word.
 use mathlib.Core.Path.{_≡_, refl, sym, _∙_}
+use mathlib.Core.Logic.{_≢_}
 use mathlib.Core.Bool.{Bool, true, false, cond}
 use mathlib.Core.List.{List, [], _∷_}
 use Prim.Native.Nat.{ℕ, _-_, _≤_, _<_, min}
@@ -9,10 +10,10 @@ use lib.ListN.{length, drop, length-drop}
 use lib.Seq.{take-all}
 use borrow.Author.Tests.{lt-ltb, le-ltb}
 use Rattle.model.specs.Refusals.{firstRefusal}
-use Rattle.model.proofs.Laws.{and-right}
+use Rattle.model.proofs.Laws.{by, and-right}
 use Rattle.language.specs.Words.{value}
-use Rattle.language.specs.Grammar.{largest, least, takesSign, mostMore}
-use Rattle.language.specs.Commands.{notNumber, tooLarge, tooSmall, isNegative, digitsOf, wrongDigits}
+use Rattle.language.specs.Grammar.{largest, least, takesSign, takesChoice, mostMore}
+use Rattle.language.specs.Commands.{notNumber, tooLarge, tooSmall, isNegative, choiceDigits, digitsOf, reasonFor, wrongDigits}
 use Rattle.scanning.specs.Scanned.{between, cap, NumberRead}
 use Rattle.letters.specs.Measured.{Measured}
 
@@ -44,22 +45,32 @@ unfolding isNegative
 negative-some letter [] e = let clash : _≡_ {A = ℕ} 0 1 = cc (and-right (takesSign letter) false e) in omega arith
 negative-some letter (byte ∷ word) e = omega arith
 
--- the digits behind it
-pub digits-behind : (letter : ℕ) (word : List ℕ) → isNegative letter word ≡ true → digitsOf letter word ≡ between 1 (length word) word
+-- of yes or no the digits are what they stand for
+pub digits-chosen : (letter : ℕ) (word : List ℕ) → takesChoice letter ≡ true → digitsOf letter word ≡ choiceDigits word
 unfolding digitsOf
-digits-behind letter word e = rw e (sym (take-all (length word - 1) (drop 1 word) (simp length-drop (omega arith))))
+digits-chosen letter word e = rw e refl
+
+-- of another word those behind its sign
+pub digits-behind : (letter : ℕ) (word : List ℕ) → takesChoice letter ≡ false → isNegative letter word ≡ true → digitsOf letter word ≡ between 1 (length word) word
+unfolding digitsOf
+digits-behind letter word c e = rw (c, e) (sym (take-all (length word - 1) (drop 1 word) (simp length-drop (omega arith))))
 
 -- or the whole word
-pub digits-whole : (letter : ℕ) (word : List ℕ) → isNegative letter word ≡ false → digitsOf letter word ≡ word
+pub digits-whole : (letter : ℕ) (word : List ℕ) → takesChoice letter ≡ false → isNegative letter word ≡ false → digitsOf letter word ≡ word
 unfolding digitsOf
-digits-whole letter word e = rw e
+digits-whole letter word c e = rw (c, e)
 
 -- ---- digits
+-- a reason stays one, whatever the letter
+pub reason-there : (letter reason : ℕ) → reason ≢ 0 → reasonFor letter reason ≢ 0
+unfolding reasonFor
+reason-there letter reason d = by (takesChoice letter) (λ e. rw e (λ z. omega arith)) (λ e. rw e d)
+
 module _ (letter : ℕ) (word : List ℕ) {digits : Bool} {number : ℕ} (n : NumberRead word digits number) where
   -- what is no number
-  pub measured-none : digits ≡ false → Measured letter word (record { reason = notNumber; value = 0 })
+  pub measured-none : digits ≡ false → (reason : ℕ) → reason ≡ reasonFor letter notNumber → Measured letter word (record { reason = reason; value = 0 })
   unfolding wrongDigits firstRefusal
-  measured-none e = record { reason = rw (sym (n .is) ∙ e) refl; which = λ z. absurd (omega arith) }
+  measured-none e reason is = record { reason = rw (sym (n .is) ∙ e) is; which = λ z. absurd (reason-there letter notNumber (λ w. omega arith) (sym is ∙ z)) }
 
   module _ (e : digits ≡ true) where
     -- it is read

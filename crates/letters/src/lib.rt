@@ -1,8 +1,9 @@
 // A number by its letter: its largest value, its least, its sign, and how many more may follow.
 ghost use mathlib.Core.Path.{_≡_};
 ghost use Rattle.language.specs.Grammar.{largest, least, takesSign, mostMore};
-ghost use Rattle.language.specs.Commands.{isNegative, digitsOf};
+ghost use Rattle.language.specs.Commands.{isNegative, choiceDigits, digitsOf, reasonFor};
 ghost use Rattle.letters.specs.Measured.{Measured};
+use scanning::is_word;
 use scanning::number;
 
 // Why a word is no number of its letter.
@@ -12,7 +13,10 @@ pub const TOO_LARGE: u8 = 6;
 
 pub const TOO_SMALL: u8 = 7;
 
-// The letters: a flag, a thread, a record, a size of the store, a byte, a place of a queue, a word, ticks, and a code with its sign.
+// Why a word is neither `yes` nor `no`.
+pub const NO_CHOICE: u8 = 12;
+
+// The letters: a flag, a thread, a record, a size of the store, a byte, a place of a queue, a word, ticks, a code with its sign, and yes or no.
 const FLAG: u8 = b'1';
 
 pub const THREAD: u8 = b't';
@@ -30,6 +34,8 @@ pub const WORD: u8 = b'w';
 const TICKS: u8 = b'k';
 
 const CODE: u8 = b'c';
+
+const CHOICE: u8 = b'y';
 
 // What stands before a number below 0.
 const MINUS: u8 = b'-';
@@ -114,6 +120,16 @@ pub fn is_negative(letter: u8, word: &[u8]) -> bool
     word[0] == MINUS
 }
 
+// A reason why a number is none; of yes or no that it is neither.
+pub fn reason_for(letter: u8, reason: u8) -> u8
+    ensures { λ r. ⌜ r ≡ reasonFor letter reason ⌝ }
+{
+    if letter == CHOICE {
+        return NO_CHOICE;
+    }
+    reason
+}
+
 // The number that digits are, where it is one of its letter.
 fn measured(letter: u8, digits: &[u8]) -> Amount
     ensures { λ r. ⌜ Measured letter (now (digits .entry)) r ⌝ }
@@ -121,7 +137,7 @@ fn measured(letter: u8, digits: &[u8]) -> Amount
     let read = number(digits);
     if !read.digits {
         return Amount {
-            reason: NOT_NUMBER,
+            reason: reason_for(letter, NOT_NUMBER),
             value: 0,
         };
     }
@@ -144,10 +160,26 @@ fn measured(letter: u8, digits: &[u8]) -> Amount
     }
 }
 
+// `yes` as 1 and `no` as 0.
+fn chosen(letter: u8, word: &[u8]) -> Amount
+    ensures { λ r. ⌜ Measured letter (choiceDigits (now (word .entry))) r ⌝ }
+{
+    if is_word(word, b"yes") {
+        return measured(letter, b"1");
+    }
+    if is_word(word, b"no") {
+        return measured(letter, b"0");
+    }
+    measured(letter, b"")
+}
+
 // The number that a word is without its sign.
 pub fn amount_of(letter: u8, word: &[u8]) -> Amount
     ensures { λ r. ⌜ Measured letter (digitsOf letter (now (word .entry))) r ⌝ }
 {
+    if letter == CHOICE {
+        return chosen(letter, word);
+    }
     if is_negative(letter, word) {
         return measured(letter, &word[1..]);
     }

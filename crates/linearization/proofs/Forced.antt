@@ -12,7 +12,7 @@ use borrow.Author.Tests.{ne-eqb}
 use Rattle.model.specs.Answers.{Said, refused, replied, said}
 use Rattle.model.specs.Codes.{running, nobody, View}
 use Rattle.model.specs.Operations.{hasReceive}
-use Rattle.model.specs.Calls.{Call, beginVia, step, cancel, tick}
+use Rattle.model.specs.Calls.{Call, beginVia, step, cancel, tick, load}
 use Rattle.model.specs.Atomic.{Run, nothing, sending, receiving, AtomicThread, Machine, begins, cancels, ticks, rendezvous, aborts, runs, senderAfter, play, CanAbort, cancelledSending, lateSending, cancelledReceiving, lateReceiving, Can}
 use Rattle.model.specs.Linearization.{Observed, Entry, playEntry, played, AtStep, AtCall, Allowed, Follows, FollowsAll, Linearizes}
 use Rattle.model.proofs.Laws.{by, same?}
@@ -96,6 +96,7 @@ place-forced (beginVia via x o) (replied a) p e other h k f = h .event ∙ sym (
 place-forced (step x) (replied a) p e other h k f = f h k
 place-forced (cancel x) (replied a) p e other h k f = h .event ∙ sym (k .event)
 place-forced tick (replied a) p e other h k f = h .event ∙ sym (k .event)
+place-forced (load rules) (replied a) p e other h k f = h ∙ sym k
 
 module _ (n : ℕ) (small : n ≤ nobody) (past : List Entry) (l : AllAllowed n past) (c : Observed) where
   -- of two entries that follow the same step, the first is none or the second

@@ -11,10 +11,10 @@ use Rattle.model.specs.declared.Operation.{Operation}
 use Rattle.model.specs.declared.Table.{Table}
 use Rattle.model.specs.Codes.{done, running, neverBegun, nobody, codeOnly}
 use Rattle.model.specs.Phases.{Phase, idle, lock, check, copy, release, sleep, look, wake, unlock, unknown}
-use Rattle.model.specs.Threads.{newTable, edit, withFlags, entering, withOp, withLeft, withQueue, withOwner, withOutcome, withCopied, withWaking, polled, marked, withoutReceive}
+use Rattle.model.specs.Threads.{newTable, withRules, edit, withFlags, entering, withOp, withLeft, withQueue, withOwner, withOutcome, withCopied, withWaking, polled, marked, withoutReceive}
 use Rattle.model.specs.WellFormed.{clauses, wellFormed}
 use Rattle.model.specs.Calls.{beginTable}
-use Rattle.model.specs.Examples.{sendTo, receiveOnly, openFor, closedFor, oneOfFor, flags}
+use Rattle.model.specs.Examples.{sendTo, receiveOnly, openFor, closedFor, oneOfFor, rule, rulesOf, flags}
 use Rattle.model.proofs.Forbidden.{afterForbidden}
 
 -- the places of a list of tests at which one fails
@@ -58,7 +58,7 @@ pub data Clause : Type 0 where
   queues queuedTwice strangerQueued owners ownedNotHeld chains : Clause
   sendAndMark sendWithoutIpc poll receiving receivingWithoutPart withoutSend idleFlags releaseTarget : Clause
   sendClear sendInWake sendInUnlock sendSet noSendInLock noSendInCheck noSendInCopy : Clause
-  copiesToMarked copiesToSending copiesToOther : Clause
+  copiesToMarked copiesToSending copiesToOther rules tooManyRules : Clause
 
 -- the table itself
 unfoldable pub broken : Clause → Table
@@ -95,6 +95,8 @@ broken noSendInCopy = edit 0 (withOwner 1) (edit 1 (entering copy) (beginTable 0
 broken copiesToMarked = edit 1 marked copier
 broken copiesToSending = edit 1 (withOwner 0) (edit 0 (entering copy) crossed)
 broken copiesToOther = edit 1 (withOp (receiveOnly (closedFor 2 15))) copier
+broken rules = withRules (rulesOf (rule 0 2 0 1 true ∷ [])) (newTable 3)
+broken tooManyRules = withRules (rulesOf (rule 0 2 0 2 true ∷ replicate 64 (rule 1 0 0 2 true))) (newTable 3)
 
 -- the place of its clause in the list, counted from 0
 unfoldable pub place : Clause → ℕ
@@ -131,6 +133,8 @@ place noSendInCopy = 15
 place copiesToMarked = 16
 place copiesToSending = 16
 place copiesToOther = 16
+place rules = 17
+place tooManyRules = 17
 
 -- opens the tables above
 unfoldable pub tables : ℕ
@@ -173,6 +177,8 @@ clause-counts noSendInCopy = refl
 clause-counts copiesToMarked = refl
 clause-counts copiesToSending = refl
 clause-counts copiesToOther = refl
+clause-counts rules = refl
+clause-counts tooManyRules = refl
 
 -- ---- "every number in use is in range": a table for each number, but for the queue's length, which no table breaks alone
 pub data Number : Type 0 where
@@ -222,8 +228,9 @@ number-counts waking = refl
 -- ---- what the list does not ask
 pub data Odd : Type 0 where
   -- a woken sender that is not in the waker's queue; `poll` clear in check; `left` above its code's count; a count without a source;
-  -- code 2 in release; numbers of an ended operation, or its empty set; a queue place past the length
-  wokenElsewhere pollClear leftAbove countAlone neverBegunInRelease endedNumbers endedSet pastTheQueue : Odd
+  -- code 2 in release; numbers of an ended operation, or its empty set; a queue place past the length; a sender queued whom the rules
+  -- do not permit; rows past those in use
+  wokenElsewhere pollClear leftAbove countAlone neverBegunInRelease endedNumbers endedSet pastTheQueue queuedAgainstRules pastTheRules : Odd
 
 -- the table itself
 unfoldable pub odd : Odd → Table
@@ -235,6 +242,8 @@ odd neverBegunInRelease = edit 0 (λ h. entering release (withOp (sendTo 1 [] 15
 odd endedNumbers = edit 0 (λ h. withLeft 30000 (withOp (sendTo 0 [] 99 (closedFor 99 99)) h)) (newTable 3)
 odd endedSet = edit 0 (withOp (receiveOnly (oneOfFor 0 15))) (newTable 3)
 odd pastTheQueue = edit 1 (withQueue (record { items = 77 ∷ replicate 31 0; len = 0 })) (newTable 3)
+odd queuedAgainstRules = withRules (rulesOf (rule 0 2 0 2 false ∷ [])) sender
+odd pastTheRules = withRules (record { rows = replicate 64 (rule 0 2 0 2 true); len = 1 }) (newTable 3)
 
 -- each of them is well-formed
 pub odd-accepted : (k : Odd) → wellFormed (odd k) ≡ true
@@ -247,6 +256,8 @@ odd-accepted neverBegunInRelease = refl
 odd-accepted endedNumbers = refl
 odd-accepted endedSet = refl
 odd-accepted pastTheQueue = refl
+odd-accepted queuedAgainstRules = refl
+odd-accepted pastTheRules = refl
 
 -- opens what the rows of the next file are worked out from, once those of this file hold
 unfoldable pub afterClauses : ℕ

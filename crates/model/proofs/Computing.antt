@@ -7,6 +7,7 @@ use Rattle.model.specs.Codes
 use Rattle.model.specs.Times
 use Rattle.model.specs.Operations
 use Rattle.model.specs.Phases
+use Rattle.model.specs.Rules
 use Rattle.model.specs.Threads
 use Rattle.model.specs.Queues
 use Rattle.model.specs.Locks
@@ -36,6 +37,11 @@ unfolding Codes.isFailure Times.isTimeCode Times.isLeft Times.isHard Times.tickC
     Operations.targetBeyond Operations.message
 shared = 0
 
+unfoldable pub rules : ℕ
+unfolding Rules.inRange Rules.holdsPair Rules.rowsIn Rules.falls Rules.saysYes Rules.permits Rules.noRules Rules.pairOrNone Rules.pairsFrom Rules.pairsBelow Rules.pairMisfit
+    Rules.firstMisfit Rules.misfit Rules.pairOf Rules.rulesFit
+rules = 0
+
 unfoldable pub threads : ℕ
 unfolding Phases.phaseOf Phases.isOneOf Threads.noOperation Threads.newThread Threads.newTable Threads.at Threads.put Threads.edit Threads.editBelow
     Queues.senders Queues.joined Queues.departed Locks.lockFree Queues.searchPlace Queues.findSender Queues.placesRead Queues.ready Locks.lockHeld Store.wordCopied
@@ -62,13 +68,14 @@ calls = 0
 
 unfoldable pub refusals : ℕ
 unfolding Refusals.firstRefusal Refusals.unless Refusals.badSize Refusals.notWellFormed Refusals.noThread Refusals.badLength Refusals.lockOwned
-    Refusals.notIdle Refusals.neitherPart Refusals.withItself Refusals.noPartner Refusals.noMember Refusals.moreWords Refusals.tooManyWords Refusals.badTime Refusals.tableRows
-    Refusals.argumentRows Refusals.beginRows Refusals.laterRows Refusals.rowsOf Refusals.refusal Refusals.makeRefusal Refusals.outcomeRefusal
+    Refusals.notIdle Refusals.neitherPart Refusals.withItself Refusals.noPartner Refusals.noMember Refusals.moreWords Refusals.tooManyWords Refusals.badTime Refusals.notPermitted
+    Refusals.badRules Refusals.tableRows
+    Refusals.argumentRows Refusals.unruledRows Refusals.beginRows Refusals.laterRows Refusals.rowsOf Refusals.refusal Refusals.makeRefusal Refusals.outcomeRefusal
     Refusals.searchRefusal Refusals.reportRefusal
 refusals = 0
 
 unfoldable pub promises : ℕ
-unfolding Promise.answer Promise.next Promise.makeAnswer Promise.madeTable Promise.view Promise.outcomeAnswer Promise.outcomeWords
+unfolding Promise.answer Promise.next Promise.loadMisfit Promise.makeAnswer Promise.madeTable Promise.view Promise.outcomeAnswer Promise.outcomeWords
     Promise.outcomePlace Promise.searchAnswer Promise.reportAnswer Promise.reportAfter
 promises = 0
 
@@ -105,5 +112,5 @@ unfolding Examples.worked Examples.seen Examples.workedOut Examples.row
 rows = 0
 
 unfoldable pub computing : ℕ
-unfolding lists shared threads clauses steps calls refusals promises events traces orders replays bytes texts rows
+unfolding lists shared rules threads clauses steps calls refusals promises events traces orders replays bytes texts rows
 computing = 0

@@ -16,6 +16,7 @@ pub mod Searched
 pub mod Limits
 pub mod EntryPoints
 pub mod PartnerSets
+pub mod Loadings
 pub mod Replays
 pub mod Making
 pub mod Free

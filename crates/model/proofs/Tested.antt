@@ -103,6 +103,7 @@ well-formed-tested t w = all-of-made _ (
     and each-same t _ .0 (w .sendClear)
     and each-same t _ .0 (w .sendSet)
     and each-same t _ .0 (w .copies)
+    and w .rules
     and tt
     )
 
@@ -111,7 +112,7 @@ pub well-formed-told : (t : Table) → wellFormed t ≡ true → WellFormed t
 unfolding wellFormed clauses
 well-formed-told t e =
     let (size, (numbers, (ipcExactly, (bareOutcome, (withOthers, (queues, (owners, (chains, more)))))))) = all-of-read _ e in
-    let (sendAndMark, (poll, (receiving, (withoutSend, (idleFlags, (releaseTarget, (sendClear, (sendSet, (copies, end))))))))) = more in
+    let (sendAndMark, (poll, (receiving, (withoutSend, (idleFlags, (releaseTarget, (sendClear, (sendSet, (copies, (rules, end)))))))))) = more in
     record {
       size = size;
       numbers = each-same t _ .1 numbers;
@@ -130,6 +131,7 @@ well-formed-told t e =
       sendClear = each-same t _ .1 sendClear;
       sendSet = each-same t _ .1 sendSet;
       copies = each-same t _ .1 copies;
+      rules = rules;
     }
 
 -- a well-formed table has at most 32 threads

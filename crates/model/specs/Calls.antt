@@ -7,13 +7,14 @@ use Rattle.model.specs.declared.Operation.{Operation}
 use Rattle.model.specs.declared.EntryPoint.{EntryPoint}
 use Rattle.model.specs.declared.EntryPoint.the-variants.{Main, Spark}
 use Rattle.model.specs.declared.Thread.{Thread}
+use Rattle.model.specs.declared.Rules.{Rules}
 use Rattle.model.specs.declared.Table.{Table}
 use Rattle.model.specs.Answers.{Reply, accepted, nothingToCancel}
 use Rattle.model.specs.Codes.{running, noReceiver, codeOnly}
 use Rattle.model.specs.Operations.{targetBeyond, hasReceive, firstTime}
 use Rattle.model.specs.Times.{tickCount, fall}
 use Rattle.model.specs.Phases.{Phase, lock, look}
-use Rattle.model.specs.Threads.{at, edit, editBelow, withFlags, entering, withOp, withLeft, withOutcome, marked, ended}
+use Rattle.model.specs.Threads.{at, withRules, edit, editBelow, withFlags, entering, withOp, withLeft, withOutcome, marked, ended}
 use Rattle.model.specs.Queues.{joined}
 use Rattle.model.specs.Store.{zeroed}
 use Rattle.model.specs.Step.{decide, replyOf, act, storeAfter}
@@ -56,6 +57,8 @@ pub data Call : Type 0 where
   step : ℕ → Call
   cancel : ℕ → Call
   tick : Call
+  -- document 02, #102: "Loadings, later ones too, may stand in the list of demand 3"
+  load : Rules → Call
 
 -- document 01's begin, "through the main entry"
 abbrev pub begin : ℕ → Operation → Call
@@ -76,10 +79,12 @@ acceptedReply (beginVia via x o) s = accepted
 acceptedReply (step x) s = replyOf (decide (s .table) x)
 acceptedReply (cancel x) s = cancelReply x (s .table)
 acceptedReply tick s = accepted
+acceptedReply (load rules) s = accepted
 
--- what an accepted call leaves; begin "zeroes the thread's eight words"
+-- what an accepted call leaves; begin "zeroes the thread's eight words"; "loading touches no sender already queued"
 unfoldable pub acceptedState : Call → State → State
 acceptedState (beginVia via x o) s = record { table = beginTable x o (s .table); store = zeroed x (s .store) }
 acceptedState (step x) s = let a = decide (s .table) x in record { table = act a x (s .table); store = storeAfter a (at (s .table) x) (s .store) }
 acceptedState (cancel x) s = record { table = cancelTable x (s .table); store = s .store }
 acceptedState tick s = record { table = tickTable (s .table); store = s .store }
+acceptedState (load rules) s = record { table = withRules rules (s .table); store = s .store }

@@ -1,5 +1,5 @@
 -- Document 01, "Marked meetings": P1 to P12 as rows of a single table. `proofs/Examples` works each row out from the step rules.
-use mathlib.Core.Bool.{true, false}
+use mathlib.Core.Bool.{Bool, true, false}
 use mathlib.Core.Option.{none, some}
 use mathlib.Core.List.{List, [], _∷_, _++_}
 use Prim.Native.Nat.{ℕ, _-_, _*_}
@@ -11,10 +11,13 @@ use Rattle.model.specs.declared.Receive.the-variants.{Absent, Open, Clos
 use Rattle.model.specs.declared.Operation.{Operation}
 use Rattle.model.specs.declared.Outcome.{Outcome}
 use Rattle.model.specs.declared.Thread.{Thread}
+use Rattle.model.specs.declared.Rule.{Rule}
+use Rattle.model.specs.declared.Rules.{Rules}
 use Rattle.model.specs.Answers.{Reply, accepted, marked, moved, held, asleep, Said, refused, replied}
 use Rattle.model.specs.Lists.{upTo}
 use Rattle.model.specs.Codes.{done, running, neverBegun, noReceiver, receiveTimeOver, sendTimeOver, receiveCancelled, sendCancelled, nobody, codeOnly}
 use Rattle.model.specs.Phases.{Phase, idle, lock, check, release, look, phaseOf}
+use Rattle.model.specs.Rules.{rowLimit, zeroRule}
 use Rattle.model.specs.Threads.{newTable, noFlags, at}
 use Rattle.model.specs.Queues.{senders}
 use Rattle.model.specs.Calls.{Call, begin, step, cancel, tick, State}
@@ -100,6 +103,14 @@ closedFor partner time = Closed (record { time = time; partner = partner })
 -- a receive closed on a set, with a time code
 abbrev pub oneOfFor : ℕ → ℕ → Receive
 oneOfFor set time = OneOf time set
+
+-- a row of rules: senders from a to b, targets from c to d, yes or no
+abbrev pub rule : ℕ → ℕ → ℕ → ℕ → Bool → Rule
+rule a b c d permits = record { senders = record { from = a; to = b }; targets = record { from = c; to = d }; permits = permits }
+
+-- these rows
+abbrev pub rulesOf : List Rule → Rules
+rulesOf rows = record { rows = rows ++ replicate (rowLimit - length rows) zeroRule; len = length rows }
 
 -- k steps of thread x
 abbrev pub steps : ℕ → ℕ → List Call

@@ -4,6 +4,7 @@ pub mod Times
 pub mod Operations
 pub mod Answers
 pub mod Phases
+pub mod Rules
 pub mod Threads
 pub mod Queues
 pub mod Locks

@@ -14,7 +14,7 @@ use Rattle.model.specs.Lists.{bit, occurs}
 use Rattle.model.specs.Codes.{done, running, receiveTimeOver, receiveCancelled, sameCode}
 use Rattle.model.specs.Operations.{hasReceive}
 use Rattle.model.specs.Threads.{newTable}
-use Rattle.model.specs.Calls.{Call, beginVia, step, cancel, tick, State}
+use Rattle.model.specs.Calls.{Call, beginVia, step, cancel, tick, load, State}
 use Rattle.model.specs.Promise.{Promise, state, view}
 use Rattle.model.specs.Atomic.{AtomicThread, Machine, firstMachine, Event, begins, cancels, ticks, rendezvous, aborts, play, AtomicReply, reply, shows, isReceiving, Can}
 
@@ -72,6 +72,8 @@ AtAccepted (beginVia via x o) a e p = OwnEvent (begins x o) a e p
 AtAccepted (step x) a e p = AtStep e
 AtAccepted (cancel x) a e p = OwnEvent (cancels x) a e p
 AtAccepted tick a e p = OwnEvent ticks a e p
+-- document 02, #102: loadings "are no event there"
+AtAccepted (load rules) a e p = e ≡ none
 
 -- "a refused call is none"
 abbrev pub AtCall : Call → Said → Entry → Machine → Type 0

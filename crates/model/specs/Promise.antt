@@ -9,17 +9,21 @@ use Rattle.model.specs.declared.Operation.{Operation}
 use Rattle.model.specs.declared.Outcome.{Outcome}
 use Rattle.model.specs.declared.Table.{Table}
 use Rattle.model.specs.declared.Answer.{Answer}
+use Rattle.model.specs.declared.Rules.{Rules}
+use Rattle.model.specs.declared.Misfit.{Misfit}
+use Rattle.model.specs.declared.Misfit.the-variants.{Fits}
 use Rattle.model.specs.Lists.{upTo}
 use Rattle.model.specs.Answers.{accepted, Said, refused, replied, said, SaidOutcome, shown, SaidSearch, notReceiving, searched}
 use Rattle.model.specs.Codes.{View, nobody}
 use Rattle.model.specs.Operations.{sparkLimit}
+use Rattle.model.specs.Rules.{misfit}
 use Rattle.model.specs.Threads.{newTable, at}
 use Rattle.model.specs.Queues.{findSender, placesRead}
 use Rattle.model.specs.Store.{wordsAt}
 use Rattle.model.specs.Calls.{Call, begin, sparkBegin, State, acceptedReply, acceptedState}
-use Rattle.model.specs.Refusals.{unless, refusal, makeRefusal, outcomeRefusal, searchRefusal, reportRefusal}
+use Rattle.model.specs.Refusals.{firstRefusal, unless, tableRows, refusal, makeRefusal, outcomeRefusal, searchRefusal, reportRefusal}
 
--- ---- begin, step, cancel, tick
+-- ---- begin, step, cancel, tick, and loading rules
 -- what the call answers
 unfoldable pub answer : Call → State → Said
 answer c s = unless (refusal c s) refused (replied (acceptedReply c s))
@@ -44,6 +48,11 @@ FewWords o = o .send .present ≡ true → o .send .count ≤ sparkLimit
 -- "a begin of at most 3 words returns and leaves the same through either"
 abbrev pub SameThroughEither : Type 0
 SameThroughEither = (x : ℕ) (o : Operation) (s : State) → FewWords o → (answer (sparkBegin x o) s ≡ answer (begin x o) s) × (next (sparkBegin x o) s ≡ next (begin x o) s)
+
+-- ---- loading rules
+-- document 02, #102: "14, gap or overlap, at loading, with the pair": what tells them, and `Fits` where the loading is accepted or the table is refused
+unfoldable pub loadMisfit : Table → Rules → Misfit
+loadMisfit t rules = unless (firstRefusal (tableRows t)) (λ g. Fits) (misfit (t .n) rules)
 
 -- ---- making a table
 -- what making a table answers

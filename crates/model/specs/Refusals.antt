@@ -7,14 +7,16 @@ use lib.Dec.{eqb, leb, ltb}
 use Rattle.model.specs.declared.Operation.{Operation}
 use Rattle.model.specs.declared.EntryPoint.{EntryPoint}
 use Rattle.model.specs.declared.EntryPoint.the-variants.{Main, Spark}
+use Rattle.model.specs.declared.Rules.{Rules}
 use Rattle.model.specs.declared.Table.{Table}
 use Rattle.model.specs.Operations.{closedBeyond, emptySet, wordLimit, sparkLimit, hasReceive, receiveTime, closedOn}
 use Rattle.model.specs.Times.{isTimeCode}
 use Rattle.model.specs.Phases.{idle}
+use Rattle.model.specs.Rules.{permits, misfit, isFit}
 use Rattle.model.specs.Threads.{at}
 use Rattle.model.specs.Locks.{lockFree}
 use Rattle.model.specs.WellFormed.{sizeInRange, inPhase, wellFormed}
-use Rattle.model.specs.Calls.{Call, beginVia, step, cancel, tick, State}
+use Rattle.model.specs.Calls.{Call, beginVia, step, cancel, tick, load, State}
 
 -- "When", and the number that is "Returned"
 pub record Row : Type 0 where
@@ -87,6 +89,14 @@ badTime o = record {
   number = 10;
 }
 
+-- document 02, #102: "13, pair not permitted"; "a target of N or more still ends with -2"
+unfoldable pub notPermitted : Table → ℕ → Operation → Row
+notPermitted t x o = record { when = o .send .present && ltb (o .send .target) (t .n) && not (permits (t .rules) x (o .send .target)); number = 13 }
+
+-- document 02, #102: "14, gap or overlap, at loading", or "more than 64 rows"
+unfoldable pub badRules : Table → Rules → Row
+badRules t rules = record { when = not (isFit (misfit (t .n) rules)); number = 14 }
+
 -- the rows on the table, which every call takes that is given one
 unfoldable pub tableRows : Table → List Row
 tableRows t = badSize (t .n) ∷ notWellFormed t ∷ []
@@ -95,9 +105,13 @@ tableRows t = badSize (t .n) ∷ notWellFormed t ∷ []
 unfoldable pub argumentRows : Table → ℕ → ℕ → List Row
 argumentRows t x words = noThread t x ∷ badLength (8 * t .n) words ∷ []
 
--- the rows on a thread that begins and on its operation, by the entry
+-- the rows on a thread that begins and on its operation, by the entry, whatever the rules
+unfoldable pub unruledRows : EntryPoint → Table → ℕ → Operation → List Row
+unruledRows via t x o = lockOwned t x ∷ notIdle t x ∷ neitherPart o ∷ withItself x o ∷ noPartner t o ∷ noMember o ∷ tooManyWords via o ∷ badTime o ∷ []
+
+-- with that on the rules: "13 .. at begin after 10"
 unfoldable pub beginRows : EntryPoint → Table → ℕ → Operation → List Row
-beginRows via t x o = lockOwned t x ∷ notIdle t x ∷ neitherPart o ∷ withItself x o ∷ noPartner t o ∷ noMember o ∷ tooManyWords via o ∷ badTime o ∷ []
+beginRows via t x o = unruledRows via t x o ++ (notPermitted t x o ∷ [])
 
 -- the rows of each call after those on the table
 unfoldable pub laterRows : Call → State → List Row
@@ -105,6 +119,7 @@ laterRows (beginVia via x o) s = argumentRows (s .table) x (length (s .store)) +
 laterRows (step x) s = argumentRows (s .table) x (length (s .store))
 laterRows (cancel x) s = noThread (s .table) x ∷ lockOwned (s .table) x ∷ []
 laterRows tick s = []
+laterRows (load rules) s = badRules (s .table) rules ∷ []
 
 -- the rows of each call, in the order of checking
 unfoldable pub rowsOf : Call → State → List Row

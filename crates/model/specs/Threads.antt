@@ -10,9 +10,11 @@ use Rattle.model.specs.declared.Outcome.{Outcome}
 use Rattle.model.specs.declared.Flags.{Flags}
 use Rattle.model.specs.declared.Queue.{Queue}
 use Rattle.model.specs.declared.Thread.{Thread}
+use Rattle.model.specs.declared.Rules.{Rules}
 use Rattle.model.specs.declared.Table.{Table}
 use Rattle.model.specs.Codes.{neverBegun, nobody, codeOnly}
 use Rattle.model.specs.Phases.{Phase, phaseNumber}
+use Rattle.model.specs.Rules.{noRules}
 
 -- ---- a new table
 -- "no flag"
@@ -37,9 +39,9 @@ newThread = record {
   waking = 0;
 }
 
--- "In a new table every thread is" a new one
+-- "In a new table every thread is" a new one; it is "without loaded rules"
 unfoldable pub newTable : ℕ → Table
-newTable n = record { n = n; threads = replicate 32 newThread }
+newTable n = record { n = n; threads = replicate 32 newThread; rules = noRules }
 
 -- ---- reading and changing a thread
 -- what the definitions take for a thread that is not there: everything zero. No code reads past an array
@@ -62,7 +64,11 @@ at t x = getD (t .threads) x zeroThread
 
 -- a table with other threads
 abbrev pub withThreads : List Thread → Table → Table
-withThreads v t = record { n = t .n; threads = v }
+withThreads v t = record { n = t .n; threads = v; rules = t .rules }
+
+-- a table with other rules
+abbrev pub withRules : Rules → Table → Table
+withRules v t = record { n = t .n; threads = t .threads; rules = v }
 
 -- the table with h for its thread x
 unfoldable pub put : ℕ → Thread → Table → Table

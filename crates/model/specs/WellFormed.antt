@@ -17,6 +17,7 @@ use Rattle.model.specs.Operations.{closedBeyond, emptySet, wordLimit, ha
 use Rattle.model.specs.Codes.{done, running, codes, sameCode, nobody}
 use Rattle.model.specs.Times.{isTimeCode, isLeft}
 use Rattle.model.specs.Phases.{isOneOf, Phase, idle, lock, check, copy, release, sleep, look, wake, unlock}
+use Rattle.model.specs.Rules.{rulesFit}
 use Rattle.model.specs.Threads.{at}
 use Rattle.model.specs.Queues.{senders, ready}
 use Rattle.model.specs.Locks.{lockHeld}
@@ -171,6 +172,8 @@ pub record WellFormed (t : Table) : Type 0 where
   pub sendClear : Each t (λ x h. receiversSendClear h)
   pub sendSet : Each t (λ x h. sendersSendSet h)
   pub copies : Each t (copiesToReady t)
+  -- document 02, #102: "a table holding entries that break their loading's rule is not sound"
+  pub rules : rulesFit (t .n) (t .rules) ≡ true
 
 -- ---- as a test
 -- the test holds of each thread in use
@@ -194,7 +197,7 @@ ownerTest t r = allBelow (t .n) (λ o. Bool·beq (eqb (at t r .owner) o) (eqb (l
 unfoldable pub chainTest : Table → ℕ → Bool
 chainTest t r = allBelow (t .n) (λ k. not (eqb (chain (ownerOf t) (suc k) r) r))
 
--- a test for each clause, in the order of document 01's list
+-- a test for each clause, in the order of document 01's list, and that of document 02, #102
 unfoldable pub clauses : Table → List Bool
 clauses t =
     sizeInRange (t .n)
@@ -214,6 +217,7 @@ clauses t =
     ∷ each t (λ x h. receiversSendClear h)
     ∷ each t (λ x h. sendersSendSet h)
     ∷ each t (copiesToReady t)
+    ∷ rulesFit (t .n) (t .rules)
     ∷ []
 
 -- a table is well-formed

@@ -71,10 +71,44 @@ pub struct Thread {
     pub waking: u8,
 }
 
+// Thread numbers from one to another, both included; none where the first is above the second.
+pub struct Range {
+    pub from: u8,
+    pub to: u8,
+}
+
+// A row of rules: whether these senders may send to these targets.
+pub struct Rule {
+    pub senders: Range,
+    pub targets: Range,
+    pub permits: bool,
+}
+
+// Who may send to whom: the first len of rows; every pair may where there are none. A len above 64 stands for more rows than there is room for.
+pub struct Rules {
+    pub rows: [Rule; 64],
+    pub len: u8,
+}
+
 // The table: its first n threads are in use.
 pub struct Table {
     pub n: u8,
     pub threads: [Thread; 32],
+    pub rules: Rules,
+}
+
+// A sender and its target.
+pub struct Pair {
+    pub sender: u8,
+    pub target: u8,
+}
+
+// How rules fit a table: each pair falls in one row exactly; or there are too many rows, or a pair falls in none, or in several.
+pub enum Misfit {
+    Fits,
+    TooMany,
+    Gap(Pair),
+    Overlap(Pair),
 }
 
 // What every call but outcome answers: making a table, begin, step, cancel, tick, report, reading and writing a record.
@@ -93,6 +127,13 @@ pub enum Answer {
 // An answer and the table after the call.
 pub struct Returned {
     pub answer: Answer,
+    pub table: Table,
+}
+
+// What loading rules returns: an answer, the pair by which they do not fit, and the table after the call.
+pub struct Loaded {
+    pub answer: Answer,
+    pub misfit: Misfit,
     pub table: Table,
 }
 

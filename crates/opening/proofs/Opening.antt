@@ -9,7 +9,7 @@ use Rattle.model.specs.Refusals.{unless, makeRefusal}
 use Rattle.model.specs.RecordBytes.{threadByte, lawful}
 use Rattle.model.specs.Decoding.{front}
 use Rattle.laws.proofs.Lists.{cond-true, cond-false}
-use Rattle.invariant.proofs.New.{new-size}
+use Rattle.invariant.proofs.New.{new-size, new-rules}
 use Rattle.core.proofs.Kept.{new-checked}
 use Rattle.opening.specs.Opened.{openRefusal, openSize, opened, Steady}
 
@@ -38,7 +38,7 @@ module _ (input : List ℕ) where
 -- the playback of a table record that is not refused can go on
 pub opened-steady : (n : ℕ) → makeRefusal n ≡ 0 → Steady (opened n)
 unfolding opened
-opened-steady n made = record { checked = new-checked n made; fewer = omega arith; counted = omega arith }
+opened-steady n made = record { checked = new-checked n made; unruled = new-rules n; fewer = omega arith; counted = omega arith }
 
 -- it has eight words for each of its threads
 pub opened-words : (n : ℕ) → 8 * opened n .table .n ≡ 8 * n

@@ -1,4 +1,5 @@
 -- What reading the table record returns, and what playing on from there relies on.
+use mathlib.Core.Path.{_≡_}
 use mathlib.Core.Bool.{true, cond}
 use mathlib.Core.List.{List}
 use Prim.Native.Nat.{ℕ, _≤_}
@@ -21,8 +22,9 @@ openSize input = unless (openRefusal input) (λ g. 0) (threadByte input)
 unfoldable pub opened : ℕ → Playback
 opened n = record { table = newTable n; records = 1; refused = 0; place = headLength }
 
--- a playback that can go on: its table has passed the check, or was left by calls that started from one that had, and no count is ahead of the bytes
+-- a playback that can go on: its table has passed the check, or was left by calls that started from one that had, no rules are loaded, since no record loads any, and no count is ahead of the bytes
 pub record Steady (t : Playback) : Type 0 where
   pub checked : Checked (t .table)
+  pub unruled : t .table .rules .len ≡ 0
   pub fewer : t .refused ≤ t .records
   pub counted : t .records ≤ t .place

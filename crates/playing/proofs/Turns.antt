@@ -7,22 +7,25 @@ use Prim.Native.Nat.{ℕ, suc, zero, _+_, _-_, _≤_, _<_}
 use native.Mathlib.Omega.{arith}
 use lib.ListN.{length, take, drop, length-drop}
 use lib.Seq.{take-all, length-take-le}
+use lib.Dec.{eqb}
 use Rattle.model.specs.declared.Record.{Record}
+use Rattle.model.specs.declared.Rules.{Rules}
 use Rattle.model.specs.declared.Table.{Table}
 use Rattle.model.specs.declared.Answer.{Answer}
 use Rattle.model.specs.Calls.{Call, State}
 use Rattle.model.specs.Refusals.{refusal, unless}
 use Rattle.model.specs.Promise.{state, next, Promise}
-use Rattle.model.specs.RecordBytes.{kindByte, recordLength, lawful}
+use Rattle.model.specs.RecordBytes.{isBegin, stepKind, cancelKind, kindByte, recordLength, lawful}
 use Rattle.model.specs.Decoding.{front, recordOf}
 use Rattle.model.specs.Bondtrace.{callOf, Tally, tally, recordPlayed}
+use Rattle.model.proofs.Laws.{by}
 use Rattle.model.proofs.Tested.{formed-few}
-use Rattle.laws.proofs.Calls.{refused-next}
+use Rattle.laws.proofs.Calls.{refused-next, rulesAfter}
 use Rattle.laws.proofs.Schedule.{record-head, lawful-long, lawful-head-long}
 use Rattle.pieces.specs.Playing.{Progress, playedOn, wholeRecord}
 use Rattle.pieces.proofs.Playing.{PlayedTo, played-to-none, played-to-more, played-to-end}
 use Rattle.core.specs.Runnable.{Runnable}
-use Rattle.core.proofs.Kept.{keeps-runnable, keeps-size}
+use Rattle.core.proofs.Kept.{keeps-runnable, keeps-size, keeps-rules}
 use Rattle.opening.specs.declared.Playback.{Playback}
 use Rattle.playing.specs.Playback.{tallyOf, Playable, PlayPromise, Carries}
 
@@ -56,6 +59,15 @@ module _ (item : Record) (p : Tally) (c : Call) (is : callOf item ≡ c) where
       go zero e = absurd (d e)
       go (suc g) e = played-as 1 (rw e refl) ∙ ap (λ (s : State). record { now = s; records = p .records + 1; refused = p .refused + 1 }) (refused-next c (p .now) g e)
 
+-- no record loads rules
+record-loads-none : (item : Record) (rules : Rules) → rulesAfter (callOf item) rules ≡ rules
+unfolding callOf
+record-loads-none item rules = by (isBegin (item .kind))
+    (λ e. rw e refl)
+    (λ e. rw e (by (eqb (item .kind) stepKind)
+    (λ i. rw i refl)
+    (λ i. rw i (by (eqb (item .kind) cancelKind) (λ j. rw j refl) (λ j. rw j refl)))))
+
 -- ---- playing past one record
 module _ (start p q : Tally) (bytes rest : List ℕ) (at to : ℕ) (is : rest ≡ drop at bytes) (good : lawful false (front rest) ≡ true) (passes : to ≡ at + recordLength (kindByte rest)) where
   -- the record takes its whole length
@@ -76,6 +88,8 @@ pub record Goes (from : Playback) (store₀ bytes : List ℕ) (n : ℕ) (store :
   pub within : at ≤ length bytes
   -- calls may run
   pub runnable : Runnable (state now store)
+  -- whoever sends to whom
+  pub unruled : now .rules .len ≡ 0
   -- on as many threads as before
   pub size : now .n ≡ n
   -- the records up to this place are played
@@ -91,6 +105,7 @@ unfolding tallyOf
 goes-first from store bytes ready = record {
   within = omega arith;
   runnable = record { checked = ready .steady .checked; words = ready .words };
+  unruled = ready .steady .unruled;
   size = refl;
   same = played-to-none (tallyOf from store) bytes;
   fewer = ready .steady .fewer;
@@ -132,10 +147,11 @@ module _ {from : Playback} {store₀ bytes : List ℕ} {n : ℕ} {store : List �
 
       -- playing goes on from the tally q
       pub goes-on : (after : Table) (words : List ℕ) (more : ℕ) → recordPlayed (recordOf (front rest)) (tally now store records refused) ≡ tally after words (records + 1) more
-          → Runnable (state after words) → after .n ≡ n → more ≤ refused + 1 → Goes from store₀ bytes n words after (records + 1) more to
-      goes-on after words more plays runs sized bound = record {
+          → Runnable (state after words) → after .rules ≡ now .rules → after .n ≡ n → more ≤ refused + 1 → Goes from store₀ bytes n words after (records + 1) more to
+      goes-on after words more plays runs ruled sized bound = record {
         within = omega (arith, record-within);
         runnable = runs;
+        unruled = ap (λ (r : Rules). r .len) ruled ∙ G .unruled;
         size = sized;
         same = past-record (tallyOf from store₀) (tally now store records refused) (tally after words (records + 1) more) bytes rest at to (left-there bytes at) good passes plays (G .same);
         fewer = omega (arith, G .fewer);
@@ -149,12 +165,13 @@ module _ {from : Playback} {store₀ bytes : List ℕ} {n : ℕ} {store : List �
         turn-accepted e a after words kept = goes-on after words refused
             (played-accepted (recordOf (front rest)) (tally now store records refused) c calls e ∙ ap (λ (s : State). record { now = s; records = records + 1; refused = refused }) (sym (kept .leaves)))
             (keeps-runnable c (state now store) a (state after words) kept (G .runnable))
+            (keeps-rules c (state now store) a (state after words) kept (ap (λ (d : Call). rulesAfter d (now .rules)) (sym calls) ∙ record-loads-none (recordOf (front rest)) (now .rules)))
             (keeps-size c (state now store) a (state after words) kept ∙ G .size)
             (omega arith)
 
         -- a call that is refused
         pub turn-refused : refusal c (state now store) ≢ 0 → Goes from store₀ bytes n store now (records + 1) (refused + 1) to
-        turn-refused d = goes-on now store (refused + 1) (played-refused (recordOf (front rest)) (tally now store records refused) c calls d) (G .runnable) (G .size) (omega arith)
+        turn-refused d = goes-on now store (refused + 1) (played-refused (recordOf (front rest)) (tally now store records refused) c calls d) (G .runnable) refl (G .size) (omega arith)
 
   -- ---- the end, where no lawful record stands at the front
   pub goes-last : lawful false (front (from-place bytes at)) ≡ false → (place : ℕ) → place ≡ from .place + at → (bad : Bool) → bad ≡ wholeRecord (from-place bytes at)
@@ -172,7 +189,7 @@ module _ {from : Playback} {store₀ bytes : List ℕ} {n : ℕ} {store : List �
   -- and the playback can go on
   pub goes-further : Playable from store₀ (length bytes) → n ≡ from .table .n → (place : ℕ) → place ≡ from .place + at → Carries from (length bytes) (record { table = now; records = records; refused = refused; place = place }) store
   goes-further was sized place there = record {
-    steady = record { checked = G .runnable .checked; fewer = G .fewer; counted = omega (arith, G .counted, was .steady .counted, there) };
+    steady = record { checked = G .runnable .checked; unruled = G .unruled; fewer = G .fewer; counted = omega (arith, G .counted, was .steady .counted, there) };
     words = G .runnable .words;
     onward = omega (arith, there);
     within = omega (arith, there, G .within);

@@ -1,13 +1,17 @@
 // The refusals of document 01's table: one function for each row or group of rows, joined in the order of checking.
 ghost use mathlib.Core.Path.{_≡_};
 ghost use mathlib.Core.List.{[], _∷_};
-ghost use Prim.Native.Nat.{ℕ};
+ghost use Prim.Native.Nat.{ℕ, _≤_};
+ghost use Rattle.model.specs.declared.Rules.{Rules};
 ghost use Rattle.model.specs.declared.Table.{Table};
+ghost use Rattle.model.specs.Rules.{rowLimit, misfit};
 ghost use Rattle.model.specs.Threads.{at};
-ghost use Rattle.model.specs.Refusals.{firstRefusal, noThread, badLength, lockOwned, tooManyWords, tableRows, argumentRows, beginRows, makeRefusal};
+ghost use Rattle.model.specs.Refusals.{firstRefusal, noThread, badLength, lockOwned, tooManyWords, notPermitted, badRules, tableRows, argumentRows, unruledRows, makeRefusal};
 ghost use Rattle.refusals.specs.Rows.{firstOf, threadRows, operationRows};
 use model::EntryPoint;
+use model::Misfit;
 use model::Operation;
+use model::Rules;
 use model::Table;
 use model::Thread;
 use threads::IDLE;
@@ -128,11 +132,28 @@ fn operation_refusal(via: EntryPoint, n: u8, x: u8, op: Operation) -> u8
     )
 }
 
-// The rows on the thread that begins, which is h, and on its operation.
+// The rows on the thread that begins, which is h, and on its operation, whatever the rules.
 pub fn begin_refusal(via: EntryPoint, n: u8, x: u8, h: Thread, op: Operation) -> u8
-    ensures { λ r. ⌜ ((t : Table) → t .n ≡ n → at t x ≡ h → r ≡ firstRefusal (beginRows via t x op)) ⌝ }
+    ensures { λ r. ⌜ ((t : Table) → t .n ≡ n → at t x ≡ h → r ≡ firstRefusal (unruledRows via t x op)) ⌝ }
 {
     let thread = thread_refusal(h);
     let operation = operation_refusal(via, n, x, op);
     first(thread, operation)
+}
+
+// The rules do not permit the send part of the operation that thread x begins.
+pub fn permit_refusal(n: u8, rules: Rules, x: u8, op: Operation) -> u8
+    requires { ⌜ rules .len ≤ rowLimit ⌝ }
+    ensures { λ r. ⌜ ((t : Table) → t .n ≡ n → t .rules ≡ rules → r ≡ firstRefusal (notPermitted t x op ∷ [])) ⌝ }
+{
+    let send = op.send;
+    let permitted = rules::permit(rules, x, send.target);
+    row(send.present & (send.target < n) & !permitted, 13)
+}
+
+// Rules that are loaded do not fit.
+pub fn load_refusal(found: Misfit) -> u8
+    ensures { λ r. ⌜ ((t : Table) (rules : Rules) → found ≡ misfit (t .n) rules → r ≡ firstRefusal (badRules t rules ∷ [])) ⌝ }
+{
+    row(!rules::is_fit(found), 14)
 }

@@ -18,6 +18,9 @@ pub const NOT_RECORD: u8 = 10;
 
 pub const TABLE_FIRST: u8 = 11;
 
+// Why a row of rules is not kept.
+pub const ROWS_FULL: u8 = 13;
+
 // A reason in plain words.
 fn put_reason(out: &mut [u8], start: usize, reason: u8) -> usize
     ensures { λ r. ⌜ Written start (reasonText reason) (now (out .entry)) (now (out .exit)) r ⌝ }
@@ -35,6 +38,8 @@ fn put_reason(out: &mut [u8], start: usize, reason: u8) -> usize
         commands::TOO_LONG => put_text(out, start, b"line too long"),
         NOT_RECORD => put_text(out, start, b"no line of a schedule"),
         TABLE_FIRST => put_text(out, start, b"table stands first, and only there"),
+        letters::NO_CHOICE => put_text(out, start, b"neither yes nor no"),
+        ROWS_FULL => put_text(out, start, b"no more than 80 rows are kept"),
         _ => start,
     }
 }
@@ -130,6 +135,8 @@ table N                  a new table of N threads (1 to 32), a store of zeros, r
 begin X PARTS            thread X begins; PARTS: [send T CODE WORD ..] [receive any CODE | receive P CODE | receive P,Q,.. CODE | receive set M CODE]
                          M is a set of threads, one bit each, thread 0 the lowest
 spark X PARTS            the same through the spark entry, which takes at most three words
+rule F T G H yes|no      notes a row for the next loading: may senders F to T send to targets G to H; up to 80 are kept
+rules                    loads the rows noted since the last loading: each pair of two threads must be in one of them, at most 64
 step X ..                one step of each thread named
 cancel X                 cancels what X runs
 tick [K]                 one tick, or K

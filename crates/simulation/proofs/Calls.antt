@@ -11,7 +11,7 @@ use Rattle.model.specs.Lists.{update}
 use Rattle.model.specs.Threads.{at, editBelow, marked}
 use Rattle.model.specs.Store.{wordsAt}
 use Rattle.model.specs.Step.{Action, stay, takeLock, abortSend, startCopy, toRelease, copyWord, finishCall, finishSend, freeTarget, retry, toIdle, abortReceive, takeSender, clearPoll, freeSender, decide}
-use Rattle.model.specs.Calls.{cancelTable, cancelReply, ticked, tickTable, Call, beginVia, step, cancel, tick, State, acceptedReply, acceptedState}
+use Rattle.model.specs.Calls.{cancelTable, cancelReply, ticked, tickTable, Call, beginVia, step, cancel, tick, load, State, acceptedReply, acceptedState}
 use Rattle.model.specs.Refusals.{refusal}
 use Rattle.model.specs.Atomic.{Machine, cancels, ticks, cancelling, ticking, play, reply}
 use Rattle.model.specs.Linearization.{alike, AtStep, AtAccepted}
@@ -80,6 +80,7 @@ call-leads (beginVia via x o) s e whole S = begin-leads s S whole x o (accepted-
 call-leads (step x) s e whole S = step-leads (s .table) S x (accepted-step x s e .below) whole
 call-leads (cancel x) s e whole S = cancel-leads (s .table) S x (accepted-cancel x s e .below) whole
 call-leads tick s e whole S = tick-leads (s .table) S whole
+call-leads (load rules) s e whole S = unfold at in record { allowed = tt; like = S .like; copied = S .copied }
 
 -- a step has a rendezvous, an abort or nothing in its place
 event-at-step : (a : Action) (x : ℕ) (h : Thread) → AtStep (eventOf a x h)
@@ -107,3 +108,4 @@ call-placed (beginVia via x o) s e S = record { event = refl; answer = refl }
 call-placed (step x) s e S = event-at-step (decide (s .table) x) x (at (s .table) x)
 call-placed (cancel x) s e S = record { event = refl; answer = cancel-answers (s .table) S x (accepted-cancel x s e .below) }
 call-placed tick s e S = record { event = refl; answer = refl }
+call-placed (load rules) s e S = refl

@@ -18,7 +18,7 @@ use Rattle.laws.proofs.Rows.{none-holds}
 use Rattle.roundtrip.specs.Fits.{Bytes}
 use Rattle.roundtrip.proofs.Lists.{append-under, cons-under, nil-under}
 use Rattle.language.specs.Words.{isBlank, words, withoutReturn, value}
-use Rattle.language.specs.Grammar.{grammar, column, isName, findRow, untilBlank, numberLetters, restLetter, mostMore, largest, takesSign, firstField, setRow, rows}
+use Rattle.language.specs.Grammar.{grammar, column, isName, findRow, untilBlank, numberLetters, restLetter, mostMore, largest, takesSign, takesChoice, firstField, setRow, rows}
 use Rattle.language.specs.Commands.{
   Progress,
   Command,
@@ -35,6 +35,7 @@ use Rattle.language.specs.Commands.{
   tooLong,
   lineLimit,
   digitsOf,
+  reasonFor,
   wrongDigits,
   wrongNumber,
   kept,
@@ -93,7 +94,7 @@ other-row row high (reached numbers left) = λ low. absurd (omega arith)
 -- ---- numbers
 -- a number of a thread is a byte
 byte-kept : (word : List ℕ) → wrongNumber (code "b") word ≡ 0 → Bytes (kept (code "b") word)
-unfolding wrongNumber wrongDigits kept takesSign largest
+unfolding wrongNumber wrongDigits reasonFor kept takesSign takesChoice largest
 byte-kept word right =
     let number = value (digitsOf (code "b") word) in
     let low : number ≤ 255 = ltb-false 255 number (none-holds _ refl right .1 .0) in

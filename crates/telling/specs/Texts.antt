@@ -1,11 +1,17 @@
--- What the console answers to `search`, in the words of its table of commands.
+-- What the console answers to `search` and `rules`, in the words of its table of commands.
 use mathlib.Core.Bool.{cond}
-use mathlib.Core.List.{List, _++_}
+use mathlib.Core.List.{List, [], _++_}
 use Prim.Native.Nat.{ℕ}
 use lib.Dec.{eqb}
+use Rattle.model.specs.declared.Answer.{Answer}
+use Rattle.model.specs.declared.Pair.{Pair}
+use Rattle.model.specs.declared.Misfit.{Misfit}
+use Rattle.model.specs.declared.Misfit.the-variants.{Fits, TooMany, Gap, Overlap}
 use Rattle.model.specs.Answers.{SaidSearch, notReceiving, searched}
 use Rattle.model.specs.Bondtrace.{ascii, decimal}
 use Rattle.model.specs.Codes.{nobody}
+use Rattle.model.specs.Rules.{pairOf}
+use Rattle.text.specs.Texts.{answerText}
 
 -- a sender, or that there is none
 unfoldable pub senderText : ℕ → List ℕ
@@ -16,3 +22,18 @@ unfoldable pub searchText : SaidSearch → List ℕ
 searchText (SaidSearch.refused number) = ascii "refused " ++ decimal number ++ ascii "\n"
 searchText notReceiving = ascii "not receiving" ++ ascii "\n"
 searchText (searched sender read) = senderText sender ++ ascii " " ++ decimal read ++ ascii "\n"
+
+-- a pair, each number behind a space
+unfoldable pub pairText : Pair → List ℕ
+pairText pair = ascii " " ++ decimal (pair .sender) ++ ascii " " ++ decimal (pair .target)
+
+-- what does not fit, and its pair
+unfoldable pub misfitText : Misfit → List ℕ
+misfitText Fits = []
+misfitText TooMany = ascii " rows" ++ pairText (pairOf TooMany)
+misfitText (Gap pair) = ascii " gap" ++ pairText (pairOf (Gap pair))
+misfitText (Overlap pair) = ascii " overlap" ++ pairText (pairOf (Overlap pair))
+
+-- "`accepted`, `refused 14 gap S T`, `refused 14 overlap S T`, `refused 14 rows 255 255`, or `refused R`"
+unfoldable pub loadedText : Answer → Misfit → List ℕ
+loadedText answer misfit = answerText answer ++ misfitText misfit ++ ascii "\n"

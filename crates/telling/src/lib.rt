@@ -1,10 +1,12 @@
-// What the console tells of a table: an outcome, the report, every field, what a search finds; by the public calls, as text in a caller's bytes.
+// What the console tells of a table: an outcome, the report, every field, what a search finds, how rules fit; by the public calls, as text in a caller's bytes.
 mod lines;
+mod loadings;
 mod reports;
 mod shows;
 
 pub use lines::put_line;
 pub use lines::put_word;
+pub use loadings::put_loaded;
 pub use reports::Filled;
 pub use reports::blank;
 pub use reports::report;

@@ -5,6 +5,7 @@ use mathlib.Core.List.{List}
 use Prim.Native.Nat.{ℕ, _≤_, _<_}
 use Rattle.model.specs.declared.Table.{Table}
 use Rattle.model.specs.Lists.{allBelow}
+use Rattle.model.specs.Rules.{rulesFit}
 use Rattle.model.specs.Threads.{at}
 use Rattle.model.specs.Queues.{senders, ready}
 use Rattle.model.specs.WellFormed.{Shaped, WellFormed, wellFormed}
@@ -27,6 +28,10 @@ refused t wrong = by (wellFormed t) (λ e. absurd (wrong (well-formed-told t e))
 pub size-refused : (t : Table) → (1 ≤ t .n → t .n ≤ 32 → ⊥) → false ≡ wellFormed t
 size-refused t wrong = refused t (λ w. let (some, few) = size-read (t .n) (w .size) in wrong some few)
 
+-- its rules do not fit
+pub rules-refused : (t : Table) → rulesFit (t .n) (t .rules) ≡ false → false ≡ wellFormed t
+rules-refused t e = refused t (λ w. true≢false (sym (w .rules) ∙ e))
+
 module _ (t : Table) (z : Shaped t) where
   -- its threads are not well-formed
   not-formed : (Formed (t .n) (at t) → ⊥) → false ≡ wellFormed t
@@ -44,10 +49,10 @@ module _ (t : Table) (z : Shaped t) where
   pub queue-refused : t .n ≤ 32 → {k : ℕ} {targets owners held waits : List ℕ} → Passed t k targets owners held waits → k < t .n → (Free (t .n) (numberAt waits) (senders (at t k)) → ⊥) → false ≡ wellFormed t
   queue-refused few P kn clash = not-formed (λ F. clash (next-free t few P F kn))
 
-  module _ (some : 1 ≤ t .n) (few : t .n ≤ 32) where
+  module _ (some : 1 ≤ t .n) (few : t .n ≤ 32) (fit : rulesFit (t .n) (t .rules) ≡ true) where
     -- its threads are well-formed
     formed : Formed (t .n) (at t) → true ≡ wellFormed t
-    formed F = sym (well-formed-tested t (formed-ungrouped t (size-made (t .n) some few) F))
+    formed F = sym (well-formed-tested t (formed-ungrouped t (size-made (t .n) some few) fit F))
 
     -- all threads passed, and it is told whether what was gathered fits together
     pub links-verdict : {targets owners held waits : List ℕ} → Passed t (t .n) targets owners held waits

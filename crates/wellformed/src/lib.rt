@@ -121,6 +121,10 @@ pub fn well_formed(table: Table) -> bool
     if 32 < n {
         return false;
     }
+    let rules = table.rules;
+    if !rules::rules_fit(n, rules) {
+        return false;
+    }
     let mut targets = [NOBODY; 32];
     let mut owners = [NOBODY; 32];
     let mut held = [NOBODY; 32];

@@ -8,9 +8,9 @@ use borrow.Author.Needs.{needs}
 use Rattle.model.specs.declared.Answer.the-variants.{Refused}
 use Rattle.model.specs.Calls.{Call, beginVia, State}
 use Rattle.model.specs.Promise.{state, Promise}
-use Rattle.model.specs.Refusals.{firstRefusal, argumentRows, beginRows, laterRows, refusal}
+use Rattle.model.specs.Refusals.{firstRefusal, argumentRows, unruledRows, beginRows, laterRows, refusal}
 use Rattle.model.specs.Threads.{at}
-use Rattle.laws.proofs.Groups.{table-formed, table-few, place-below, place-store, place-before-begin, begin-after-place}
+use Rattle.laws.proofs.Groups.{table-formed, table-few, table-few-rules, place-below, place-store, place-before-begin, begin-after-place, before-rules, then-rules}
 use Rattle.laws.proofs.EntryPoints.{main-takes, promised-via}
 use Rattle.core.proofs.Kept.{begin-number}
 use Rattle.engine.proofs.Refused.{refused-as, table-refuses, later-refuses}
@@ -58,28 +58,48 @@ place-tested b = b .before .before .before
 
 -- what they say
 begin-rows : (b : BeginTested) → let s = entry (table-tested (place-tested b)) in
-    b .begin-refusal .result ≡ firstRefusal (beginRows (s .args .via) (s .args .t2) (s .args .thread) (s .args .op))
+    b .begin-refusal .result ≡ firstRefusal (unruledRows (s .args .via) (s .args .t2) (s .args .thread) (s .args .op))
 unfolding at
 begin-rows b = b .begin-refusal .ensures _ refl refl
 
--- none of these holds either
+-- the first row that holds after those on the number and the length refuses the call
+last : (b : BeginTested) → let s = entry (table-tested (place-tested b)) in
+    (g : ℕ) → g ≡ firstRefusal (beginRows (s .args .via) (s .args .t2) (s .args .thread) (s .args .op)) → g ≢ 0 → Promise (call s) (found s) (Refused g) (found s)
+last b g e =
+    let p = place-tested b in
+    let s = entry (table-tested p) in
+    later p g (begin-after-place (s .args .via) (s .args .thread) (s .args .op) (found s) _ g (place-rows p) (b .before .before .if2 .left) e)
+
+-- none of them holds, and the row on the rules is tested
+abbrev RulesTested : Type 0
+RulesTested = tie.After-permit-refusal
+
+abbrev begin-tested : RulesTested → BeginTested
+begin-tested r = r .before .before .before
+
+-- what it says
+all-rows : (r : RulesTested) → let s = entry (table-tested (place-tested (begin-tested r))) in
+    r .permit-refusal .result ≡ firstRefusal (beginRows (s .args .via) (s .args .t2) (s .args .thread) (s .args .op))
+all-rows r = then-rules _ _ _ _ _ _ (begin-rows (begin-tested r)) (r .before .before .if3 .left) (r .permit-refusal .ensures _ refl refl)
+
+-- it does not hold either
 abbrev Passed : Type 0
-Passed = tie.Else3
+Passed = tie.Else4
 
 abbrev start : Passed → tie.Start
-start q = entry (table-tested (place-tested (q .before)))
+start q = entry (table-tested (place-tested (begin-tested (q .before))))
 
 -- so the call is not refused
 accepted : (q : Passed) → refusal (call (start q)) (found (start q)) ≡ 0
 accepted q =
-    let b = q .before in
+    let b = begin-tested (q .before) in
     let p = place-tested b in
     let s = start q in
     let t = s .args .t2 in
     let none = b .before .before .if2 .left in
     begin-number (found s) (table-formed t _ (table-tested p .table-refusal .ensures) (p .before .if1 .left)) (s .args .thread)
     (place-below t _ _ _ (place-rows p) none) (place-store t _ _ _ (place-rows p) none) (s .args .via) (s .args .op)
-    ∙ sym (begin-rows b) ∙ q .if3 .left
+    ∙ sym (all-rows (q .before)) ∙ q .if4 .left
 
 -- ---- the needs
 -- a row on the table refuses
@@ -106,10 +126,19 @@ element-copy-out-own c =
 returns-3 : tie.Need-returns-3
 returns-3 c =
     let b = c .before .before in
-    let p = place-tested b in
-    let s = entry (table-tested p) in
-    refused-as _ (c .refuse3 .ensures)
-    (later p _ (begin-after-place (s .args .via) (s .args .thread) (s .args .op) (found s) _ _ (place-rows p) (b .before .before .if2 .left) (begin-rows b)) (c .before .if3 .taken))
+    let holds = c .before .if3 .taken in
+    refused-as _ (c .refuse3 .ensures) (last b _ (before-rules _ _ _ _ _ (begin-rows b) holds) holds)
+
+-- a well-formed table has at most 64 rows of rules
+permit-refusal-requires : tie.Need-permit-refusal-requires
+permit-refusal-requires c κs =
+    let p = place-tested (c .before .before) in
+    let t = table-tested p in
+    table-few-rules (entry t .args .t2) _ (t .table-refusal .ensures) (p .before .if1 .left)
+
+-- the row on the rules refuses
+returns-4 : tie.Need-returns-4
+returns-4 c = let r = c .before .before in refused-as _ (c .refuse4 .ensures) (last (begin-tested r) _ (all-rows r) (c .before .if4 .taken))
 
 -- so the core may run, as through the main entry
 begin-requires : tie.Need-begin-requires
@@ -118,8 +147,8 @@ begin-requires c κs =
     main-takes (s .args .via) (s .args .thread) (s .args .op) (found s) (accepted (c .before))
 
 -- what it promises is promised
-returns-4 : tie.Need-returns-4
-returns-4 c =
+returns-5 : tie.Need-returns-5
+returns-5 c =
     let q = c .before .before .before .before in
     let s = start q in
     promised-via (s .args .via) (s .args .thread) (s .args .op) (found s) (accepted q) _ _ (c .before .before .begin .ensures)
@@ -139,6 +168,9 @@ begin-via-spec =
     (λ c κs. search needs)
     (λ c κs. search needs)
     returns-3
+    permit-refusal-requires
+    (λ c κs. search needs)
+    returns-4
     begin-requires
     (λ c. search needs)
-    returns-4)
+    returns-5)

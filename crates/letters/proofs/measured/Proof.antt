@@ -7,7 +7,10 @@ use Rattle.letters.proofs.measured.Tie as tie
 
 -- what is no number
 returns : tie.Need-returns
-returns c = measured-none _ _ (c .before .before .number .ensures) (not-true (c .before .before .number .result .digits) (c .if1 .taken))
+returns c =
+    let tested = c .before in
+    let at-number = tested .before .before in
+    measured-none _ _ (at-number .number .ensures) (not-true (at-number .number .result .digits) (tested .if1 .taken)) _ (c .reason-for .ensures)
 
 -- one that is too large
 returns-2 : tie.Need-returns-2
@@ -26,8 +29,8 @@ returns-3 c =
     measured-small _ _ (at-number .number .ensures) (not-false (at-number .number .result .digits) (at-if1 .if1 .left)) (rw (at-largest-of .largest-of .ensures) at (at-if2 .if2 .left)) (rw (c .before .least-of .ensures) at (c .if3 .taken))
 
 -- what is not above the largest fits
-cast-t7 : tie.Need-cast-t7
-cast-t7 c =
+cast-t8 : tie.Need-cast-t8
+cast-t8 c =
     let entry = c .before .before .before .before .before .before .before .before in
     omega (arith, largest-below (entry .args .letter))
 
@@ -41,4 +44,4 @@ returns-4 c =
     measured-fine _ _ (at-number .number .ensures) (not-false (at-number .number .result .digits) (at-if1 .if1 .left)) (rw (at-largest-of .largest-of .ensures) at (at-if2 .if2 .left)) (rw (c .before .least-of .ensures) at (c .if3 .left))
 
 pub measured-spec : {M : Type 1} → statement M
-measured-spec = tie.close (tie.spec (λ c κs. search needs) returns (λ c κs. search needs) returns-2 (λ c κs. search needs) returns-3 cast-t7 returns-4)
+measured-spec = tie.close (tie.spec (λ c κs. search needs) (λ c κs. search needs) returns (λ c κs. search needs) returns-2 (λ c κs. search needs) returns-3 cast-t8 returns-4)

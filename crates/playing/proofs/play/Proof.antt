@@ -17,6 +17,7 @@ use Rattle.model.specs.Promise.{state}
 use Rattle.model.specs.RecordBytes.{kindByte, threadByte, recordLength, lawful}
 use Rattle.model.specs.Decoding.{front}
 use Rattle.laws.proofs.Schedule.{lawful-long}
+use Rattle.laws.proofs.Groups.{without-rules}
 use Rattle.core.proofs.Stepped.{slice-eight, in-array, queue-fits, held-stays, other-in-array, slice-ends, fits-here, ending-waits, stepped-on, stepped-to-end}
 use Rattle.core.proofs.Performed.{tick-performed, none-ticked, one-more-ticked, all-ticked, begin-words, begin-leaves, joined-in-array, joined-room}
 use Rattle.playing.proofs.Records.{must-begin}
@@ -223,7 +224,7 @@ asks a = a .before .before
 rows : (a : Asked) → let b = beginning (asks a) in
     a .begin-refusal .result ≡ firstRefusal (beginRows Main (was b .table) (x b) (a .before .operation-at .result))
 unfolding at
-rows a = a .begin-refusal .ensures _ (sized (beginning (asks a))) refl
+rows a = let b = beginning (asks a) in a .begin-refusal .ensures _ (sized b) refl ∙ sym (without-rules Main (was b .table) (x b) _ (top (turn (measured b)) .loop .inv .unruled))
 
 -- none refuses it
 abbrev Begins : Type 0

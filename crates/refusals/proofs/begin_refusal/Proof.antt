@@ -1,6 +1,6 @@
 use mathlib.Core.Path.{refl, _∙_}
 use borrow.Author.Needs.{needs}
-use Rattle.model.specs.Refusals.{lockOwned, notIdle, beginRows}
+use Rattle.model.specs.Refusals.{lockOwned, notIdle, unruledRows}
 use Rattle.refusals.proofs.Laws.{first-joined}
 use Rattle.refusals.specs.Rows.{threadRows, operationRows}
 use Rattle.refusals.proofs.begin_refusal.Statement.{statement}
@@ -16,7 +16,7 @@ first-requires : tie.Need-first-requires
 first-requires c κs = search needs
 
 returns : tie.Need-returns
-unfolding beginRows threadRows operationRows lockOwned notIdle
+unfolding unruledRows threadRows operationRows lockOwned notIdle
 returns c =
     let a = c .before .before .before .args in
     λ t e is. c .first .ensures ∙ first-joined (threadRows t (a .x)) (operationRows (a .via) t (a .x) (a .op)) _ _ refl (c .before .before .thread-refusal .ensures t (a .x) is) (c .before .operation-refusal .ensures t e)

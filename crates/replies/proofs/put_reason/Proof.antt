@@ -55,14 +55,27 @@ returns-12 : tie.Need-returns-12
 unfolding reasonText reasons ascii upTo
 returns-12 c = let written = c .before .before in rw (written .before .before .before .match .keys12) (written .put-text12 .ensures)
 
--- past the last there is none
 returns-13 : tie.Need-returns-13
-returns-13 c = let ((((((((((((u, k0), k1), k2), k3), k4), k5), k6), k7), k8), k9), k10), k11) = c .match .rest in rw (no-reason (c .before .before .args .reason) k0 k1 k2 k3 k4 k5 k6 k7 k8 k9 k10 k11) (nothing-written _ _)
+unfolding reasonText reasons ascii upTo
+returns-13 c = let written = c .before .before in rw (written .before .before .before .match .keys13) (written .put-text13 .ensures)
+
+returns-14 : tie.Need-returns-14
+unfolding reasonText reasons ascii upTo
+returns-14 c = let written = c .before .before in rw (written .before .before .before .match .keys14) (written .put-text14 .ensures)
+
+-- past the last there is none
+returns-15 : tie.Need-returns-15
+returns-15 c = let ((((((((((((((u, k0), k1), k2), k3), k4), k5), k6), k7), k8), k9), k10), k11), k12), k13) = c .match .rest in
+    rw (no-reason (c .before .before .args .reason) k0 k1 k2 k3 k4 k5 k6 k7 k8 k9 k10 k11 k12 k13) (nothing-written _ _)
 
 pub put-reason-spec : {M : Type 1} → statement M
 put-reason-spec =
     tie.close
     (tie.spec
+    (λ c. search needs)
+    (λ c κs. search needs)
+    (λ c. search needs)
+    (λ c κs. search needs)
     (λ c. search needs)
     (λ c κs. search needs)
     (λ c. search needs)
@@ -111,4 +124,8 @@ put-reason-spec =
     returns-11
     (λ c. search needs)
     returns-12
-    returns-13)
+    (λ c. search needs)
+    returns-13
+    (λ c. search needs)
+    returns-14
+    returns-15)

@@ -10,9 +10,10 @@ returns c = number-stopped _ _ _ (c .before .before .before .before .pre .0) _ (
 -- no word is left
 returns-2 : tie.Need-returns-2
 returns-2 c =
-    let at-if1 = c .before .before in
+    let none-left = c .before in
+    let at-if1 = none-left .before .before in
     let entry = at-if1 .before .before .before .before in
-    number-missing _ _ _ (entry .pre .0) _ _ (c .before .next-word .ensures) (at-if1 .if1 .left) _ (c .if2 .taken)
+    number-missing _ _ _ (entry .pre .0) _ _ (none-left .before .next-word .ensures) (at-if1 .if1 .left) _ (none-left .if2 .taken) _ (c .reason-for .ensures)
 
 -- the next word is read
 returns-3 : tie.Need-returns-3
@@ -25,4 +26,4 @@ returns-3 c =
     number-read _ _ _ (entry .pre .0) _ _ (at-next-word .next-word .ensures) (at-if1 .if1 .left) _ _ _ (at-if2 .if2 .left) (at-read-word .read-word .ensures)
 
 pub read-number-spec : {M : Type 1} → statement M
-read-number-spec = tie.close (tie.spec returns (λ c κs. search needs) returns-2 (λ c κs. search needs) (λ c. search needs) returns-3)
+read-number-spec = tie.close (tie.spec returns (λ c κs. search needs) (λ c κs. search needs) returns-2 (λ c κs. search needs) (λ c. search needs) returns-3)

@@ -1,5 +1,6 @@
-use mathlib.Core.Path.{_≡_}
+use mathlib.Core.Path.{_≡_, _∙_}
 use Prim.Native.Nat.{_-_, _≤_}
+use native.Mathlib.Omega.{arith}
 use lib.ListN.{length}
 use Rattle.commands.specs.Standing.{lineRoom}
 use Rattle.line_input.specs.Fed.{Fed}
@@ -14,6 +15,23 @@ Inv-loop input watched buffer₀ out₀ numbers₀ standing₀ feed₀ line₀ b
 -- how many lines can still be counted
 abbrev μ-loop : tie.MeasureT-loop
 μ-loop input watched buffer₀ out₀ numbers₀ standing₀ feed₀ line₀ buffer out numbers standing feed line = 18446744073709551615 - line
+
+-- the line is answered; the way back to where it was fetched, and to the top of the loop
+abbrev Answered : Type 0
+Answered = tie.After-answer-line Inv-loop μ-loop
+
+abbrev fetched : Answered → tie.After-fetch-line Inv-loop μ-loop
+fetched a = a .before .before .before .before .before .before .before .before .before .before
+
+abbrev top : Answered → tie.At-loop Inv-loop μ-loop
+top a = fetched a .before .before .before
+
+loop-again : tie.Need-loop-again Inv-loop μ-loop
+loop-again c =
+    let a = c .before .before .before .before in
+    let f = fetched a .fetch-line .ensures in
+    let inv = top a .loop .inv in
+    (f .0 .fed, f .1 ∙ inv .1, omega (arith, a .answer-line .ensures, inv .2))
 
 pub talk-spec : {M : Type 1} → statement M
 talk-spec =
@@ -38,5 +56,5 @@ talk-spec =
     (λ c. search needs)
     (λ c κs. search needs)
     (λ c. search needs)
-    (λ c. search needs)
+    loop-again
     (λ c. search needs))
