@@ -1,11 +1,12 @@
--- Document 02, #102: how rules fit a table, pair by pair; and what "fits", a gap and an overlap mean.
+-- Document 02, #102: how rules fit a table, pair by pair; what "fits", a gap and an overlap mean; and which row decides.
 use mathlib.Core.Path.{_≡_, refl, sym, ap, _∙_, subst}
 use mathlib.Core.Logic.{_≢_, _↔_}
-use mathlib.Core.Bool.{true, false, cond, true≢false}
+use mathlib.Core.Bool.{true, false, cond, true≢false, or-false}
 use mathlib.Core.List.{List, [], _∷_, _++_}
-use Prim.Native.Nat.{ℕ, zero, suc, _≤_, _<_}
+use Prim.Native.Nat.{ℕ, zero, suc, _+_, _≤_, _<_}
 use native.Mathlib.Omega.{arith}
 use lib.Dec.{eqb, ltb}
+use lib.ListN.{length, getD, length-take}
 use borrow.Author.Tests.{eq-eqb, ne-eqb, eqb-true, le-ltb, ltb-false}
 use Rattle.model.specs.declared.Rule.{Rule}
 use Rattle.model.specs.declared.Rules.{Rules}
@@ -13,7 +14,7 @@ use Rattle.model.specs.declared.Pair.{Pair}
 use Rattle.model.specs.declared.Misfit.{Misfit}
 use Rattle.model.specs.declared.Misfit.the-variants.{Fits, TooMany, Gap, Overlap}
 use Rattle.model.specs.Lists.{upTo, concat}
-use Rattle.model.specs.Rules.{rowsIn, falls, rowLimit, pairOrNone, pairsFrom, pairsBelow, pairMisfit, isFit, firstMisfit, misfit, pairOf, EachInOneRow, Reported, rulesFit}
+use Rattle.model.specs.Rules.{holdsPair, rowsIn, falls, saysYes, permits, rowLimit, zeroRule, pairOrNone, pairsFrom, pairsBelow, pairMisfit, isFit, firstMisfit, misfit, pairOf, EachInOneRow, Reported, rulesFit}
 use Rattle.model.proofs.Laws.{by, same?}
 use Rattle.laws.proofs.Lists.{cond-true, cond-false}
 use Rattle.laws.proofs.Joined.{concat-snoc}
@@ -249,3 +250,38 @@ unfolding rulesFit
 fitting-few n rules e = by (eqb (rules .len) 0)
     (λ none. let z = eqb-true (rules .len) 0 none in omega arith)
     (λ some. fits-means n rules .0 (rw some at e) .0)
+
+-- ---- the row that decides
+-- a pair that falls in no row is permitted by none
+unheld : (rows : List Rule) (s r : ℕ) → falls rows s r ≡ 0 → saysYes rows s r ≡ false
+unfolding falls saysYes
+unheld [] s r e = refl
+unheld (row ∷ rows) s r e = by (holdsPair row s r)
+    (λ i. let none : 1 + falls rows s r ≡ 0 = rw i at e in absurd (omega arith))
+    (λ i. rw i (unheld rows s r (omega (arith, e))))
+
+-- a pair that falls in the row at a place falls in at least one
+held : (rows : List Rule) (k s r : ℕ) → k < length rows → holdsPair (getD rows k zeroRule) s r ≡ true → 1 ≤ falls rows s r
+unfolding falls
+held [] k s r l e = absurd (omega arith)
+held (row ∷ rows) zero s r l e = rw e (omega arith)
+held (row ∷ rows) (suc k) s r l e = omega (arith, held rows k s r (omega arith) e)
+
+-- of a pair that falls in one row exactly, that row decides
+row-decides : (rows : List Rule) (s r : ℕ) → falls rows s r ≡ 1 → (k : ℕ) → k < length rows → holdsPair (getD rows k zeroRule) s r ≡ true → saysYes rows s r ≡ getD rows k zeroRule .permits
+unfolding falls saysYes
+row-decides [] s r e k l h = absurd (omega arith)
+row-decides (row ∷ rows) s r e zero l h =
+    let none : 1 + falls rows s r ≡ 1 = rw h at e in
+    rw (h, unheld rows s r (omega arith)) (or-false (row .permits))
+row-decides (row ∷ rows) s r e (suc k) l h = by (holdsPair row s r)
+    (λ i. let none : 1 + falls rows s r ≡ 1 = rw i at e in absurd (omega (arith, held rows k s r (omega arith) h)))
+    (λ i. let one : 0 + falls rows s r ≡ 1 = rw i at e in rw i (row-decides rows s r (omega arith) k (omega arith) h))
+
+-- so under rules that fit: a pair is permitted exactly if the row in which it falls says yes, be it the first, the last or some
+pub one-row-decides : (n : ℕ) (rules : Rules) → isFit (misfit n rules) ≡ true → (s r : ℕ) → s < n → r < n → s ≢ r
+    → (k : ℕ) → k < length (rowsIn rules) → holdsPair (getD (rowsIn rules) k zeroRule) s r ≡ true → permits rules s r ≡ getD (rowsIn rules) k zeroRule .permits
+unfolding permits rowsIn
+one-row-decides n rules fit s r sn rn d k l h = by (eqb (rules .len) 0)
+    (λ none. absurd (omega (arith, l, eqb-true (rules .len) 0 none, length-take (rules .len) (rules .rows))))
+    (λ some. rw some (row-decides (rowsIn rules) s r (fits-means n rules .0 fit .1 s r sn rn d) k l h))

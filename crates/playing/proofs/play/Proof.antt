@@ -12,7 +12,7 @@ use Rattle.model.specs.WellFormed.{Shaped}
 use Rattle.model.specs.Step.{other}
 use Rattle.model.specs.declared.EntryPoint.the-variants.{Main}
 use Rattle.model.specs.Calls.{ticked, begin, step, State}
-use Rattle.model.specs.Refusals.{refusal, firstRefusal, beginRows}
+use Rattle.model.specs.Refusals.{refusal, firstRefusal, unruledRows, beginRows}
 use Rattle.model.specs.Promise.{state}
 use Rattle.model.specs.RecordBytes.{kindByte, threadByte, recordLength, lawful}
 use Rattle.model.specs.Decoding.{front}
@@ -220,11 +220,16 @@ Asked = tie.After-begin-refusal Inv-loop2 μ-loop2 Inv-loop μ-loop
 abbrev asks : Asked → Begin
 asks a = a .before .before
 
--- the number that they give
+-- the number that they give, whatever the rules
+unruled-rows : (a : Asked) → let b = beginning (asks a) in
+    a .begin-refusal .result ≡ firstRefusal (unruledRows Main (was b .table) (x b) (a .before .operation-at .result))
+unfolding at
+unruled-rows a = a .begin-refusal .ensures _ (sized (beginning (asks a))) refl
+
+-- no rules are loaded, so it is the number of all rows
 rows : (a : Asked) → let b = beginning (asks a) in
     a .begin-refusal .result ≡ firstRefusal (beginRows Main (was b .table) (x b) (a .before .operation-at .result))
-unfolding at
-rows a = let b = beginning (asks a) in a .begin-refusal .ensures _ (sized b) refl ∙ sym (without-rules Main (was b .table) (x b) _ (top (turn (measured b)) .loop .inv .unruled))
+rows a = let b = beginning (asks a) in unruled-rows a ∙ sym (without-rules Main (was b .table) (x b) _ (top (turn (measured b)) .loop .inv .unruled))
 
 -- none refuses it
 abbrev Begins : Type 0
