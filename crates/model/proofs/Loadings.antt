@@ -92,13 +92,13 @@ unfolding afterPartnerSets
 pairs-told = refl
 
 -- ---- loaded rules
--- 2, the spark thread, takes orders from 1, the force thread, only
-abbrev fromForce : Rules
-fromForce = rulesOf (rule 0 3 0 1 true ∷ rule 1 1 2 2 true ∷ rule 0 0 2 2 false ∷ rule 3 3 2 2 false ∷ rule 0 3 3 3 true ∷ [])
+-- only 1 may send to 2; to the others all may
+abbrev guarded : Rules
+guarded = rulesOf (rule 0 3 0 1 true ∷ rule 1 1 2 2 true ∷ rule 0 0 2 2 false ∷ rule 3 3 2 2 false ∷ rule 0 3 3 3 true ∷ [])
 
 -- a new table of four threads under these rules
 abbrev ruled : State
-ruled = state (withRules fromForce (newTable 4)) (replicate 32 7)
+ruled = state (withRules guarded (newTable 4)) (replicate 32 7)
 
 -- tables to load into: of no thread, with rules that do not fit, with rules that fit, and of one thread
 abbrev found : List State
@@ -111,29 +111,29 @@ unfolding afterPartnerSets
 loaded = (refl, refl)
 
 -- operations that thread 0 begins: a send of some words to a target with a time code
-abbrev order : ℕ → ℕ → ℕ → Operation
-order target count time = sendTo target (replicate count 5) time Absent
+abbrev sends : ℕ → ℕ → ℕ → Operation
+sends target count time = sendTo target (replicate count 5) time Absent
 
 -- "13, pair not permitted, at begin after 10"; "a target of N or more still ends with -2"; without a send part, and of partners, nothing is asked
-pub ordered : map (λ (o : Operation). refusal (begin 0 o) ruled)
-    (order 1 1 15 ∷ order 2 1 15 ∷ order 2 9 15 ∷ order 2 1 16 ∷ order 0 1 15 ∷ order 4 1 15 ∷ order 255 1 15 ∷ receiveOnly (openFor 15) ∷ receiveOnly (closedFor 2 15) ∷ [])
+pub begun : map (λ (o : Operation). refusal (begin 0 o) ruled)
+    (sends 1 1 15 ∷ sends 2 1 15 ∷ sends 2 9 15 ∷ sends 2 1 16 ∷ sends 0 1 15 ∷ sends 4 1 15 ∷ sends 255 1 15 ∷ receiveOnly (openFor 15) ∷ receiveOnly (closedFor 2 15) ∷ [])
     ≡ 0 ∷ 13 ∷ 9 ∷ 10 ∷ 7 ∷ 0 ∷ 0 ∷ 0 ∷ 0 ∷ []
 unfolding afterPartnerSets
-ordered = refl
+begun = refl
 
 -- so through the spark entry; and the target of a part that is not there is none
-pub spark-ordered : map (λ (o : Operation). refusal (sparkBegin 0 o) ruled)
-    (order 1 1 15 ∷ order 2 1 15 ∷ order 2 4 15 ∷ record { send = record { present = false; target = 2; count = 0; time = 0; words = replicate 8 0 }; receive = openFor 15 } ∷ [])
+pub spark-begun : map (λ (o : Operation). refusal (sparkBegin 0 o) ruled)
+    (sends 1 1 15 ∷ sends 2 1 15 ∷ sends 2 4 15 ∷ record { send = record { present = false; target = 2; count = 0; time = 0; words = replicate 8 0 }; receive = openFor 15 } ∷ [])
     ≡ 0 ∷ 13 ∷ 16 ∷ 0 ∷ []
 unfolding afterPartnerSets
-spark-ordered = refl
+spark-begun = refl
 
 -- ---- "Loadings, later ones too, may stand in the list of demand 3"
 -- 0 is queued at 2 when it is no longer permitted, and a loading that is refused keeps the rules; 0 still delivers, and then is refused; to a target beyond it is not; later rules permit all again
 unfoldable pub loadings : List Call
 loadings =
-    begin 0 (order 2 1 15) ∷ load fromForce ∷ load (rulesOf []) ∷ receiving 2 (openFor 15) ∷ steps 5 0
-    ++ begin 0 (order 2 1 15) ∷ begin 0 (order 4 1 15) ∷ load (rulesOf (everyone ∷ [])) ∷ begin 0 (order 2 0 15) ∷ steps 3 0
+    begin 0 (sends 2 1 15) ∷ load guarded ∷ load (rulesOf []) ∷ receiving 2 (openFor 15) ∷ steps 5 0
+    ++ begin 0 (sends 2 1 15) ∷ begin 0 (sends 4 1 15) ∷ load (rulesOf (everyone ∷ [])) ∷ begin 0 (sends 2 0 15) ∷ steps 3 0
 
 -- what they show
 unfoldable pub loadingsShown : Shown
@@ -150,4 +150,4 @@ later-ones-too = (refl, refl)
 -- opens what the rows of the next file are worked out from, once those of this file hold
 unfoldable pub afterLoadings : ℕ
 unfolding afterPartnerSets
-afterLoadings = let fit = fitted in let told = pairs-told in let load = loaded in let main = ordered in let spark = spark-ordered in let trace = later-ones-too in 0
+afterLoadings = let fit = fitted in let told = pairs-told in let load = loaded in let main = begun in let spark = spark-begun in let trace = later-ones-too in 0
