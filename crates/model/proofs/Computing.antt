@@ -15,6 +15,7 @@ use Rattle.model.specs.Store
 use Rattle.model.specs.WellFormed
 use Rattle.model.specs.Step
 use Rattle.model.specs.Calls
+use Rattle.model.specs.Counting
 use Rattle.model.specs.Refusals
 use Rattle.model.specs.Promise
 use Rattle.model.specs.Atomic
@@ -66,17 +67,23 @@ unfolding Calls.begunFlags Calls.begun Calls.beginTable Calls.cancelTable Calls.
     Calls.acceptedState
 calls = 0
 
+unfoldable pub countings : ℕ
+unfolding Counting.afterStep Counting.afterSteps Counting.stepLists Counting.lengthUsed Counting.standing Counting.digitOf Counting.placeFrom Counting.placeOf Counting.places
+    Counting.countOf Counting.total
+countings = 0
+
 unfoldable pub refusals : ℕ
 unfolding Refusals.firstRefusal Refusals.unless Refusals.badSize Refusals.notWellFormed Refusals.noThread Refusals.badLength Refusals.lockOwned
     Refusals.notIdle Refusals.neitherPart Refusals.withItself Refusals.noPartner Refusals.noMember Refusals.moreWords Refusals.tooManyWords Refusals.badTime Refusals.notPermitted
-    Refusals.badRules Refusals.tableRows
+    Refusals.badRules Refusals.tooManyToCount Refusals.tableRows
     Refusals.argumentRows Refusals.unruledRows Refusals.beginRows Refusals.laterRows Refusals.rowsOf Refusals.refusal Refusals.makeRefusal Refusals.outcomeRefusal
-    Refusals.searchRefusal Refusals.reportRefusal
+    Refusals.searchRefusal Refusals.reportRefusal Refusals.countRefusal
 refusals = 0
 
 unfoldable pub promises : ℕ
 unfolding Promise.answer Promise.next Promise.loadMisfit Promise.makeAnswer Promise.madeTable Promise.view Promise.outcomeAnswer Promise.outcomeWords
     Promise.outcomePlace Promise.searchAnswer Promise.reportAnswer Promise.reportAfter
+    Promise.countAnswer Promise.countLength Promise.countsAfter
 promises = 0
 
 unfoldable pub events : ℕ
@@ -112,5 +119,5 @@ unfolding Examples.worked Examples.seen Examples.workedOut Examples.row
 rows = 0
 
 unfoldable pub computing : ℕ
-unfolding lists shared rules threads clauses steps calls refusals promises events traces orders replays bytes texts rows
+unfolding lists shared rules threads clauses steps calls countings refusals promises events traces orders replays bytes texts rows
 computing = 0

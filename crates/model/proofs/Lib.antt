@@ -17,6 +17,7 @@ pub mod Limits
 pub mod EntryPoints
 pub mod PartnerSets
 pub mod Loadings
+pub mod Counts
 pub mod Replays
 pub mod Making
 pub mod Free

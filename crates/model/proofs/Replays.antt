@@ -10,7 +10,7 @@ use Rattle.model.specs.Calls.{Call, begin, cancel, tick}
 use Rattle.model.specs.Atomic.{firstMachine}
 use Rattle.model.specs.Examples.{firstState, sendTo, receiveOnly, openFor, closedFor, steps, worked}
 use Rattle.model.proofs.Replay.{agree}
-use Rattle.model.proofs.Loadings.{afterLoadings}
+use Rattle.model.proofs.Counts.{afterCounts}
 
 -- a trace, by what it shows
 pub data TraceName : Type 0 where
@@ -61,7 +61,7 @@ calls begins-refused =
 
 -- both machines go together
 pub replays : (name : TraceName) → agree 3 (firstState 3) firstMachine (calls name) ≡ true
-unfolding afterLoadings calls
+unfolding afterCounts calls
 replays ready-at-time-0 = refl
 replays sender-waits-at-time-0 = refl
 replays time-runs-out = refl
@@ -85,5 +85,5 @@ oneOfEight = record { send = record { present = true; target = 1; count = 1; tim
 -- only the message is delivered: the receiver's other words stay zero, and those of thread 2 as they were
 pub only-the-message : worked (firstState 3) (begin 1 (receiveOnly (openFor 15)) ∷ begin 0 oneOfEight ∷ steps 5 0) .last .store ≡
     0 ∷ 0 ∷ 0 ∷ 0 ∷ 0 ∷ 0 ∷ 0 ∷ 0 ∷ 5 ∷ 0 ∷ 0 ∷ 0 ∷ 0 ∷ 0 ∷ 0 ∷ 0 ∷ 7 ∷ 7 ∷ 7 ∷ 7 ∷ 7 ∷ 7 ∷ 7 ∷ 7 ∷ []
-unfolding afterLoadings
+unfolding afterCounts
 only-the-message = refl

@@ -12,6 +12,7 @@ pub mod Store
 pub mod WellFormed
 pub mod Step
 pub mod Calls
+pub mod Counting
 pub mod Refusals
 pub mod Promise
 pub mod Atomic

@@ -21,7 +21,8 @@ use Rattle.model.specs.Threads.{newTable, at}
 use Rattle.model.specs.Queues.{findSender, placesRead}
 use Rattle.model.specs.Store.{wordsAt}
 use Rattle.model.specs.Calls.{Call, begin, sparkBegin, State, acceptedReply, acceptedState}
-use Rattle.model.specs.Refusals.{firstRefusal, unless, tableRows, refusal, makeRefusal, outcomeRefusal, searchRefusal, reportRefusal}
+use Rattle.model.specs.Counting.{lengthUsed, countPlaces, countOf}
+use Rattle.model.specs.Refusals.{firstRefusal, unless, tableRows, refusal, makeRefusal, outcomeRefusal, searchRefusal, reportRefusal, countRefusal}
 
 -- ---- begin, step, cancel, tick, and loading rules
 -- what the call answers
@@ -105,3 +106,22 @@ reportAfter t records = unless (reportRefusal t (length records)) (λ g. records
 pub record ReportPromise (t : Table) (records : List Outcome) (a : Answer) (after : List Outcome) : Type 0 where
   pub answers : said a ≡ reportAnswer t records
   pub fills : after ≡ reportAfter t records
+
+-- ---- counting
+-- what counting answers
+unfoldable pub countAnswer : Table → List ℕ → Said
+countAnswer t counts = unless (countRefusal t (length counts)) refused (replied accepted)
+
+-- document 02, #105: "with the length used in the report"; refused, 0, which it leaves free
+unfoldable pub countLength : Table → ℕ → List ℕ → ℕ
+countLength t k counts = unless (countRefusal t (length counts)) (λ g. 0) (lengthUsed k)
+
+-- "The counts go into a lent run of 4096", each "that of a definition over all step lists", and so "other places hold 0"
+unfoldable pub countsAfter : Table → ℕ → List ℕ → List ℕ
+countsAfter t k counts = unless (countRefusal t (length counts)) (λ g. counts) (upTo countPlaces (countOf t (lengthUsed k)))
+
+-- what counting promises of its answer, of the length that it says it used, and of the caller's counts
+pub record CountPromise (t : Table) (k : ℕ) (counts : List ℕ) (a : Answer) (used : ℕ) (after : List ℕ) : Type 0 where
+  pub answers : said a ≡ countAnswer t counts
+  pub uses : used ≡ countLength t k counts
+  pub fills : after ≡ countsAfter t k counts

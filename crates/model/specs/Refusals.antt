@@ -17,6 +17,7 @@ use Rattle.model.specs.Threads.{at}
 use Rattle.model.specs.Locks.{lockFree}
 use Rattle.model.specs.WellFormed.{sizeInRange, inPhase, wellFormed}
 use Rattle.model.specs.Calls.{Call, beginVia, step, cancel, tick, load, State}
+use Rattle.model.specs.Counting.{countedThreads, countPlaces}
 
 -- "When", and the number that is "Returned"
 pub record Row : Type 0 where
@@ -97,6 +98,10 @@ notPermitted t x o = record { when = o .send .present && ltb (o .send .target) (
 unfoldable pub badRules : Table → Rules → Row
 badRules t rules = record { when = not (isFit (misfit (t .n) rules)); number = 14 }
 
+-- document 02, #105: "Here refusal 1 also covers N above 4"
+unfoldable pub tooManyToCount : ℕ → Row
+tooManyToCount n = record { when = ltb countedThreads n; number = 1 }
+
 -- the rows on the table, which every call takes that is given one
 unfoldable pub tableRows : Table → List Row
 tableRows t = badSize (t .n) ∷ notWellFormed t ∷ []
@@ -144,3 +149,7 @@ searchRefusal t x = firstRefusal (tableRows t ++ (noThread t x ∷ []))
 -- a report into a slice of so many records
 unfoldable pub reportRefusal : Table → ℕ → ℕ
 reportRefusal t records = firstRefusal (tableRows t ++ (badLength (t .n) records ∷ []))
+
+-- counting into a slice of so many counts: "a lent run of 4096, else 11"
+unfoldable pub countRefusal : Table → ℕ → ℕ
+countRefusal t counts = firstRefusal (badSize (t .n) ∷ tooManyToCount (t .n) ∷ notWellFormed t ∷ badLength countPlaces counts ∷ [])

@@ -1,0 +1,4 @@
+pub mod Gathered
+pub mod Steps
+pub mod Places
+pub mod Totals

@@ -1,0 +1,1 @@
+// No code: theorems about lists of steps and where they lead.
