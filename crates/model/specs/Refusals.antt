@@ -152,4 +152,4 @@ reportRefusal t records = firstRefusal (tableRows t ++ (badLength (t .n) records
 
 -- counting into a slice of so many counts: "a lent run of 4096, else 11"
 unfoldable pub countRefusal : Table → ℕ → ℕ
-countRefusal t counts = firstRefusal (badSize (t .n) ∷ tooManyToCount (t .n) ∷ notWellFormed t ∷ badLength countPlaces counts ∷ [])
+countRefusal t counts = firstRefusal (tooManyToCount (t .n) ∷ tableRows t ++ (badLength countPlaces counts ∷ []))

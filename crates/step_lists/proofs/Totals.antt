@@ -10,6 +10,7 @@ use Rattle.model.specs.declared.Table.{Table}
 use Rattle.model.specs.Lists.{bit, upTo, concat, occurs}
 use Rattle.model.specs.WellFormed.{Shaped, WellFormed}
 use Rattle.model.specs.Counting.{afterStep, afterSteps, stepLists, placeOf, countedThreads, countPlaces, places, countOf, total}
+use Rattle.step_lists.specs.Firsts.{countFrom}
 use Rattle.step_lists.proofs.Gathered.{map-concat, map-map, concat-same, concat-length, occursFrom, occurs-split, Under, under-concat, all-counted, occurs-few}
 use Rattle.step_lists.proofs.Steps.{Steps, steps-well-formed, step-size, step-steps}
 use Rattle.step_lists.proofs.Places.{place-below}
@@ -38,11 +39,6 @@ unfolding places stepLists afterSteps
 places-more t k = map-concat (λ xs. placeOf (afterSteps xs t)) (λ x. map (λ xs. x ∷ xs) (stepLists (t .n) k)) (t .n) ∙ concat-same (t .n) _ _ (λ x below.
     map-map (λ xs. placeOf (afterSteps xs t)) (λ xs. x ∷ xs) (stepLists (t .n) k)
     ∙ ap (λ (n : ℕ). map (λ xs. placeOf (afterSteps xs (afterStep x t))) (stepLists n k)) (sym (step-size t x)))
-
--- how many lists of a step of one of the m threads from x on, and k steps more, lead to place p
-unfoldable pub countFrom : Table → ℕ → ℕ → ℕ → ℕ → ℕ
-countFrom t zero x k p = 0
-countFrom t (suc m) x k p = countOf (afterStep x t) k p + countFrom t m (suc x) k p
 
 count-from : (t : Table) (k p m x : ℕ) → countFrom t m x k p ≡ occursFrom (λ y. places (afterStep y t) k) m x p
 unfolding countFrom occursFrom countOf

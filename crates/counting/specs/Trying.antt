@@ -1,0 +1,22 @@
+-- What trying lists of steps relies on, and what it counts.
+use mathlib.Core.Path.{_≡_}
+use mathlib.Core.List.{List}
+use Prim.Native.Nat.{ℕ, _+_, _-_, _≤_, _<_}
+use lib.ListN.{length, getD}
+use Rattle.model.specs.declared.Table.{Table}
+use Rattle.model.specs.Counting.{countPlaces}
+use Rattle.step_lists.specs.Firsts.{countFrom}
+use Rattle.few.specs.declared.Few.{Few}
+use Rattle.few.specs.Front.{Front}
+
+-- the four threads are those of a table, at least one step is left, and no count will overflow
+pub record Trying (f : Few) (x left : ℕ) (counts : List ℕ) : Type 0 where
+  pub whole : Table
+  pub front : Front f whole
+  pub some : 1 ≤ left
+  pub long : length counts ≡ countPlaces
+  pub room : (p : ℕ) → p < countPlaces → getD counts p 0 + countFrom whole (f .n - x) x (left - 1) p < 4294967296
+
+-- each place has gained the lists that lead there, whatever table the four threads are of
+pub record Counted (f : Few) (x left : ℕ) (before after : List ℕ) : Type 0 where
+  pub gains : (t : Table) → Front f t → (p : ℕ) → p < countPlaces → getD after p 0 ≡ getD before p 0 + countFrom t (f .n - x) x (left - 1) p

@@ -1,0 +1,53 @@
+// Every list of steps is tried, each step from a copy of the same state, and counted at the place of the codes that it leads to.
+ghost use Prim.Native.Nat.{_<_};
+ghost use Rattle.counting.specs.Trying.{Trying, Counted};
+use few::Few;
+
+// The lists that start with a step of a later thread than x, and then those that start with one of x.
+fn try_step(table: Few, x: u8, left: u8, counts: &mut [u32])
+    requires { ⌜ Trying table x left (now counts) ⌝ }
+    requires { ⌜ x < table .n ⌝ }
+    ensures { λ _. ⌜ Counted table x left (now (counts .entry)) (now (counts .exit)) ⌝ }
+{
+    try_next(table, x + 1, left, counts);
+    let i = x as usize;
+    let own = table.threads[i];
+    let other_number = phases::other_number(own);
+    let j = core::other_or_own(other_number, x) as usize;
+    let other = table.threads[j];
+    let both = few::step_both(x, other_number, own, other);
+    if !both.moved {
+        if left == 1 {
+            let outcomes = few::outcomes_of(table);
+            let p = digits::place(table.n, outcomes);
+            counts[p] += 1;
+            return;
+        }
+        try_next(table, 0, left - 1, counts);
+        return;
+    }
+    let mine = both.own;
+    let theirs = both.other;
+    if left == 1 {
+        let mut outcomes = few::outcomes_of(table);
+        outcomes[j] = theirs.outcome;
+        outcomes[i] = mine.outcome;
+        let p = digits::place(table.n, outcomes);
+        counts[p] += 1;
+        return;
+    }
+    let mut next = table;
+    next.threads[j] = theirs;
+    next.threads[i] = mine;
+    try_next(next, 0, left - 1, counts);
+}
+
+// The lists that start with a step of thread x or of a later one.
+fn try_next(table: Few, x: u8, left: u8, counts: &mut [u32])
+    requires { ⌜ Trying table x left (now counts) ⌝ }
+    ensures { λ _. ⌜ Counted table x left (now (counts .entry)) (now (counts .exit)) ⌝ }
+{
+    if x < table.n {
+        try_step(table, x, left, counts);
+    }
+}

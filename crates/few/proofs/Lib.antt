@@ -1,0 +1,2 @@
+pub mod Stepping
+pub mod Fronts
