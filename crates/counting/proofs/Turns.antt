@@ -98,7 +98,3 @@ module _ {f : Few} {x left : ℕ} {counts : List ℕ} (T : Trying f x left count
 
         pub counted-on : {end : List ℕ} → Counted g 0 (left - 1) after end → Counted f x left counts end
         counted-on on = record { gains = λ t F p l. omega (arith, on .gains (afterStep x t) (S t F) p l, first t (left - 1) p, later .gains t F p l, rest-lists t F p) }
-
-        -- the number that falls
-        pub falls-on : (m : ℕ) → m ≡ 16 * left + 2 * (f .n - x) - 1 → 16 * (left - 1) + 2 * (g .n - 0) < m
-        falls-on m is = omega (arith, size, T .front .few, T .front .size, T .some)

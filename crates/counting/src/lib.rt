@@ -16,7 +16,7 @@ fn try_step(table: Few, x: u8, left: u8, counts: &mut [u32])
     let j = core::other_or_own(other_number, x) as usize;
     let other = table.threads[j];
     let both = few::step_both(x, other_number, own, other);
-    if !both.moved {
+    if both.stays {
         if left == 1 {
             let outcomes = few::outcomes_of(table);
             let p = digits::place(table.n, outcomes);
@@ -30,8 +30,10 @@ fn try_step(table: Few, x: u8, left: u8, counts: &mut [u32])
     let theirs = both.other;
     if left == 1 {
         let mut outcomes = few::outcomes_of(table);
-        outcomes[j] = theirs.outcome;
-        outcomes[i] = mine.outcome;
+        let ended = theirs.outcome;
+        outcomes[j] = ended;
+        let ended = mine.outcome;
+        outcomes[i] = ended;
         let p = digits::place(table.n, outcomes);
         counts[p] += 1;
         return;

@@ -198,10 +198,10 @@ module _ {f : Few} {t : Table} (F : Front f t) where
               ∙ ap (λ (u : Table). take 4 (u .threads)) back;
         }
 
-        -- where the step has not moved, they are as they were
-        pub front-stays : after .moved ≡ false → Front f (afterStep x t)
+        -- where the step changes nothing, they are as they were
+        pub front-stays : after .stays ≡ true → Front f (afterStep x t)
         front-stays stays =
-            let same = both .stays stays in
+            let same = both .same stays in
             subst (λ (ts : List Thread). Front (record { n = f .n; threads = ts }) (afterStep x t))
             (ap (λ (h : Thread). set (set (f .threads) j (after .other)) x h) (same .0) ∙ ap (λ (r : Thread). set (set (f .threads) j r) x own) (same .1)
             ∙ ap (λ (ts : List Thread). set ts x own) (set-getD (f .threads) j zeroThread) ∙ set-getD (f .threads) x zeroThread)

@@ -19,7 +19,7 @@ use Rattle.actions.specs.declared.Change.{Change}
 use Rattle.actions.specs.Acted.{ownChanged, otherChanged, endingAction, ends, Acted}
 use Rattle.actions.proofs.Endings.{told-fields, told-ending}
 use Rattle.endings.specs.Ended.{Ended}
-use Rattle.few.specs.Front.{isMoved, decideHere, Both}
+use Rattle.few.specs.Front.{changesNothing, decideHere, Both}
 
 -- an action answers moved, or leaves both threads as they were
 pub moves-or-stays : (a : Action) → (replyOf a ≡ moved) ⊎ ((x : ℕ) (h r : Thread) → (ownAfter a h ≡ h) × (otherAfter a x h r ≡ r))
@@ -40,9 +40,9 @@ moves-or-stays (takeSender s) = inl refl
 moves-or-stays clearPoll = inl refl
 moves-or-stays freeSender = inl refl
 
--- an answer that says moved is moved
-says-moved : (a : Answer) → said a ≡ replied moved → isMoved a ≡ true
-says-moved a e = ap isMoved (said-settles a Moved e)
+-- one that answers moved changes something
+says-moved : (a : Answer) → said a ≡ replied moved → changesNothing a ≡ false
+says-moved a e = ap changesNothing (said-settles a Moved e)
 
 module _ (x : ℕ) (h r : Thread) where
   -- a thread whose lock is owned is held
@@ -56,12 +56,12 @@ module _ (x : ℕ) (h r : Thread) where
   here-free free = cond-true _ _ _ (eq-eqb (h .owner) nobody free)
 
   -- held, both are as they were
-  pub both-held : h .owner ≢ nobody → Both x h r (record { moved = false; own = h; other = r })
+  pub both-held : h .owner ≢ nobody → Both x h r (record { stays = true; own = h; other = r })
   unfolding ownAfter otherAfter
   both-held owned = record {
     own = sym (ap (λ (a : Action). ownAfter a h) (here-held owned));
     other = sym (ap (λ (a : Action). otherAfter a x h r) (here-held owned));
-    stays = λ e. (refl, refl);
+    same = λ e. (refl, refl);
   }
 
   module _ (free : h .owner ≡ nobody) (c : Change) (acted : Acted (decideIn (phaseOf (h .phase)) x h r) x h r c) (mine theirs : Thread) where
@@ -69,26 +69,26 @@ module _ (x : ℕ) (h r : Thread) where
     does = decideIn (phaseOf (h .phase)) x h r
 
     -- what the action leaves is what the step leaves
-    both-after : (m : Bool) → mine ≡ ownAfter does h → theirs ≡ otherAfter does x h r → (m ≡ false → (mine ≡ h) × (theirs ≡ r)) → Both x h r (record { moved = m; own = mine; other = theirs })
-    both-after m own-is other-is stays = record {
+    both-after : (m : Bool) → mine ≡ ownAfter does h → theirs ≡ otherAfter does x h r → (m ≡ true → (mine ≡ h) × (theirs ≡ r)) → Both x h r (record { stays = m; own = mine; other = theirs })
+    both-after m own-is other-is same = record {
       own = own-is ∙ sym (ap (λ (a : Action). ownAfter a h) (here-free free));
       other = other-is ∙ sym (ap (λ (a : Action). otherAfter a x h r) (here-free free));
-      stays = stays;
+      same = same;
     }
 
     -- a step that ends something
-    pub both-ended : true ≡ ends (endingAction (c .ending)) → ((a : Action) → endingAction (c .ending) ≡ some a → Ended a x h r (record { own = mine; other = theirs })) → Both x h r (record { moved = true; own = mine; other = theirs })
+    pub both-ended : true ≡ ends (endingAction (c .ending)) → ((a : Action) → endingAction (c .ending) ≡ some a → Ended a x h r (record { own = mine; other = theirs })) → Both x h r (record { stays = false; own = mine; other = theirs })
     both-ended over ended =
         let both = ended does (told-ending does x h r c (endingAction (c .ending)) (sym over) (acted .told)) in
-        both-after true (both .own) (both .other) (λ e. absurd (true≢false e))
+        both-after false (both .own) (both .other) (λ e. absurd (false≢true e))
 
     -- a step that ends nothing
-    pub both-changed : false ≡ ends (endingAction (c .ending)) → mine ≡ ownChanged c h → theirs ≡ otherChanged c r → (m : Bool) → m ≡ isMoved (c .answer) → Both x h r (record { moved = m; own = mine; other = theirs })
+    pub both-changed : false ≡ ends (endingAction (c .ending)) → mine ≡ ownChanged c h → theirs ≡ otherChanged c r → (m : Bool) → m ≡ changesNothing (c .answer) → Both x h r (record { stays = m; own = mine; other = theirs })
     both-changed goes own-is other-is m is =
         let fields = told-fields does x h r c (endingAction (c .ending)) (sym goes) (acted .told) in
         let own = own-is ∙ fields .0 in
         let other = other-is ∙ fields .1 in
         both-after m own other (λ stays. ⊎-elim
-        (λ e. absurd (false≢true (sym stays ∙ is ∙ says-moved (c .answer) (acted .answers ∙ ap replied e))))
+        (λ e. absurd (true≢false (sym stays ∙ is ∙ says-moved (c .answer) (acted .answers ∙ ap replied e))))
         (λ same. (own ∙ same x h r .0, other ∙ same x h r .1))
         (moves-or-stays does))

@@ -34,17 +34,17 @@ pub record Front (f : Few) (t : Table) : Type 0 where
 abbrev pub outcomesIn : Few → List Outcome
 outcomesIn f = map (λ (h : Thread). h .outcome) (f .threads)
 
--- an answer is moved
-abbrev pub isMoved : Answer → Bool
-isMoved (Refused number) = false
-isMoved Accepted = false
-isMoved Marked = false
-isMoved NothingToCancel = false
-isMoved Moved = true
-isMoved Idle = false
-isMoved Held = false
-isMoved Wants = false
-isMoved Asleep = false
+-- a step with this answer changes nothing
+abbrev pub changesNothing : Answer → Bool
+changesNothing (Refused number) = true
+changesNothing Accepted = true
+changesNothing Marked = true
+changesNothing NothingToCancel = true
+changesNothing Moved = false
+changesNothing Idle = true
+changesNothing Held = true
+changesNothing Wants = true
+changesNothing Asleep = true
 
 -- what thread x, which is h, does with r for the other thread: "if another owns t's lock, answer held, nothing changes. Else by phase"
 unfoldable pub decideHere : ℕ → Thread → Thread → Action
@@ -55,8 +55,8 @@ pub record Steppable (x o : ℕ) (h r : Thread) : Type 0 where
   pub fits : Fit o h
   pub waits : h .owner ≡ nobody → (c : Change) → Acted (decideIn (phaseOf (h .phase)) x h r) x h r c → endsSend (c .ending) ≡ true → Waits x r
 
--- both threads after it; where it has not moved they are as they were
+-- both threads after it
 pub record Both (x : ℕ) (h r : Thread) (after : Stepped) : Type 0 where
   pub own : after .own ≡ ownAfter (decideHere x h r) h
   pub other : after .other ≡ otherAfter (decideHere x h r) x h r
-  pub stays : after .moved ≡ false → (after .own ≡ h) × (after .other ≡ r)
+  pub same : after .stays ≡ true → (after .own ≡ h) × (after .other ≡ r)

@@ -2,7 +2,7 @@
 ghost use mathlib.Core.Path.{_≡_};
 ghost use lib.ListN.{take};
 ghost use Rattle.model.specs.Counting.{countedThreads};
-ghost use Rattle.few.specs.Front.{outcomesIn, isMoved, Steppable, Both};
+ghost use Rattle.few.specs.Front.{outcomesIn, changesNothing, Steppable, Both};
 use model::Answer;
 use model::Outcome;
 use model::Table;
@@ -44,27 +44,27 @@ pub fn outcomes_of(few: Few) -> [Outcome; 4]
     [a, b, c, d]
 }
 
-// The two threads of a step after it, and whether it has moved: if not, they are as they were.
+// The two threads of a step after it, and whether they stay as they were.
 pub struct Stepped {
-    pub moved: bool,
+    pub stays: bool,
     pub own: Thread,
     pub other: Thread,
 }
 
-// An answer is moved.
-fn is_moved(answer: Answer) -> bool
-    ensures { λ r. ⌜ r ≡ isMoved answer ⌝ }
+// A step with this answer changes nothing.
+fn changes_nothing(answer: Answer) -> bool
+    ensures { λ r. ⌜ r ≡ changesNothing answer ⌝ }
 {
     match answer {
-        Answer::Refused(_) => false,
-        Answer::Accepted => false,
-        Answer::Marked => false,
-        Answer::NothingToCancel => false,
-        Answer::Moved => true,
-        Answer::Idle => false,
-        Answer::Held => false,
-        Answer::Wants => false,
-        Answer::Asleep => false,
+        Answer::Refused(_) => true,
+        Answer::Accepted => true,
+        Answer::Marked => true,
+        Answer::NothingToCancel => true,
+        Answer::Moved => false,
+        Answer::Idle => true,
+        Answer::Held => true,
+        Answer::Wants => true,
+        Answer::Asleep => true,
     }
 }
 
@@ -75,7 +75,7 @@ pub fn step_both(x: u8, o: u8, own: Thread, other: Thread) -> Stepped
 {
     if own.owner != threads::NOBODY {
         return Stepped {
-            moved: false,
+            stays: true,
             own: own,
             other: other,
         };
@@ -88,17 +88,17 @@ pub fn step_both(x: u8, o: u8, own: Thread, other: Thread) -> Stepped
         let mine = both.own;
         let theirs = both.other;
         return Stepped {
-            moved: true,
+            stays: false,
             own: mine,
             other: theirs,
         };
     }
     let answer = change.answer;
-    let moved = is_moved(answer);
+    let stays = changes_nothing(answer);
     let mine = actions::change_own(change, own);
     let theirs = actions::change_other(change, other);
     Stepped {
-        moved: moved,
+        stays: stays,
         own: mine,
         other: theirs,
     }

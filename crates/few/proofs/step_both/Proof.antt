@@ -38,7 +38,7 @@ returns-3 c =
     let g = c .before .before .before in
     let d = g .before .before .before in
     both-changed _ _ _ (free d) (d .step-threads .result) (d .step-threads .ensures .0) _ _ (sym (g .if2 .left) ∙ g .before .is-ending .ensures)
-    (c .before .change-own .ensures) (c .change-other .ensures) _ (c .before .before .is-moved .ensures)
+    (c .before .change-own .ensures) (c .change-other .ensures) _ (c .before .before .changes-nothing .ensures)
 
 pub step-both-spec : {M : Type 1} → statement M
 step-both-spec =
