@@ -24,7 +24,7 @@ use Rattle.digits.specs.Coded.{codeAt, Coded}
 use Rattle.counting.specs.Trying.{Trying, Counted}
 
 -- one more at place q
-one-more : (counts : List ℕ) (q p : ℕ) → q < length counts → getD (set counts q (getD counts q 0 + 1)) p 0 ≡ getD counts p 0 + bit (eqb q p)
+pub one-more : (counts : List ℕ) (q p : ℕ) → q < length counts → getD (set counts q (getD counts q 0 + 1)) p 0 ≡ getD counts p 0 + bit (eqb q p)
 one-more counts q p l = same? p q
     (λ e. subst (λ (k : ℕ). getD (set counts q (getD counts q 0 + 1)) k 0 ≡ getD counts k 0 + bit (eqb q k)) (sym e)
     (getD-set-same counts q _ 0 l ∙ sym (ap (λ (b : Bool). getD counts q 0 + bit b) (eq-eqb q q refl))))

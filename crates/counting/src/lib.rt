@@ -1,6 +1,6 @@
 // Every list of steps is tried, each step from a copy of the same state, and counted at the place of the codes that it leads to.
 ghost use Prim.Native.Nat.{_<_};
-ghost use Rattle.counting.specs.Trying.{Trying, Counted};
+ghost use Rattle.counting.specs.Trying.{Trying, Counted, Countable, CountedAll};
 use few::Few;
 
 // The lists that start with a step of a later thread than x, and then those that start with one of x.
@@ -52,4 +52,18 @@ fn try_next(table: Few, x: u8, left: u8, counts: &mut [u32])
     if x < table.n {
         try_step(table, x, left, counts);
     }
+}
+
+// All lists of so many steps, into counts that are all 0.
+pub fn count_lists(table: Few, length: u8, counts: &mut [u32])
+    requires { ⌜ Countable table length (now counts) ⌝ }
+    ensures { λ _. ⌜ CountedAll table length (now (counts .exit)) ⌝ }
+{
+    if length == 0 {
+        let outcomes = few::outcomes_of(table);
+        let p = digits::place(table.n, outcomes);
+        counts[p] = 1;
+        return;
+    }
+    try_next(table, 0, length, counts);
 }
