@@ -8,7 +8,7 @@ ghost use Rattle.model.specs.Store.{wordsAt, zeroed};
 const WORDS: usize = 8;
 
 // Zero in every word of a slice.
-fn zero_words(words: &mut [u32])
+pub fn zero_words(words: &mut [u32])
     ensures { λ _. ⌜ now (words .exit) ≡ replicate (length (now (words .entry))) 0 ⌝ }
 {
     let mut i: usize = 0;
