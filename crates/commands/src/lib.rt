@@ -75,6 +75,10 @@ pub const RULE_ROW: u8 = 16;
 
 pub const RULES_ROW: u8 = 17;
 
+pub const COUNT_ROW: u8 = 18;
+
+pub const PLACES_ROW: u8 = 19;
+
 // Then the fields that `set` can set.
 pub const FLAGS_ROW: u8 = FIRST_FIELD as u8;
 
@@ -107,7 +111,7 @@ pub const NOTHING: u8 = 255;
 const SET_ROW: usize = 13;
 
 // The first row that is a field, and how many fields there are.
-const FIRST_FIELD: usize = 18;
+const FIRST_FIELD: usize = 20;
 
 const FIELDS: usize = 12;
 
@@ -374,6 +378,8 @@ search      b      .
 spark       b      p
 rule        bbbby  .
 rules              .
+count       n      .
+places      l      .
 flags       11111  .
 phase       b      .
 left        n      .

@@ -39,6 +39,7 @@ pub data Name : Type 0 where
   thread-past-the-array a-search searches-of-two a-spark spark-of-nobody : Name
   a-set largest-set above-a-set set-of-a-list set-of-nothing some-partners same-partner-twice partner-not-below-32 partner-of-letters any-and-more nobody-between-commas nobody-behind-a-comma partners-and-more : Name
   a-rule rule-that-forbids rule-of-neither rule-of-a-prefix rule-undecided rule-of-three rule-and-more all-rules rules-of-one : Name
+  a-count count-too-long count-of-two the-places too-many-places : Name
 
 -- the line and the command of each
 unfoldable pub row : Name → LineRow
@@ -113,6 +114,11 @@ row rule-of-three = refuses "rule 0 1 2 yes" notNumber "yes"
 row rule-and-more = refuses "rule 0 1 2 3 yes no" tooMuch "no"
 row all-rules = asks "rules" 17 []
 row rules-of-one = refuses "rules 3" tooMuch "3"
+row a-count = asks "count 65535" 18 (65535 ∷ [])
+row count-too-long = refuses "count 65536" tooLarge "65536"
+row count-of-two = refuses "count 1 2" tooMuch "2"
+row the-places = asks "places 4200" 19 (4200 ∷ [])
+row too-many-places = refuses "places 4201" tooLarge "4201"
 
 -- each line is the command that stands beside it
 pub lines-read : (n : Name) → commandOf (ascii (row n .line)) ≡ row n .command
@@ -176,6 +182,11 @@ lines-read rule-of-three = refl
 lines-read rule-and-more = refl
 lines-read all-rules = refl
 lines-read rules-of-one = refl
+lines-read a-count = refl
+lines-read count-too-long = refl
+lines-read count-of-two = refl
+lines-read the-places = refl
+lines-read too-many-places = refl
 
 -- ---- lines that are too long to stand in a row
 -- "Words past the eighth are counted, to any number (300 words are refused 9 and do not wrap round), and not kept": the count stays at 255

@@ -30,6 +30,8 @@ grammar = concat (
     ∷ ascii "spark       b      p\n"
     ∷ ascii "rule        bbbby  .\n"
     ∷ ascii "rules              .\n"
+    ∷ ascii "count       n      .\n"
+    ∷ ascii "places      l      .\n"
     ∷ ascii "flags       11111  .\n"
     ∷ ascii "phase       b      .\n"
     ∷ ascii "left        n      .\n"
@@ -57,11 +59,11 @@ mostNumbers = 7
 
 -- the rows before this are commands, the others are fields
 abbrev pub firstField : ℕ
-firstField = 18
+firstField = 20
 
 -- how many rows there are
 abbrev pub rows : ℕ
-rows = 30
+rows = 32
 
 -- `set`, the command whose second word is a field
 abbrev pub setRow : ℕ
@@ -104,7 +106,8 @@ largest letter =
     (cond (eqb letter (code "s")) 320
     (cond (eqb letter (code "b")) 255
     (cond (eqb letter (code "q")) 255
-    (cond (eqb letter (code "w")) 4294967295 65535))))))
+    (cond (eqb letter (code "w")) 4294967295
+    (cond (eqb letter (code "l")) 4200 65535)))))))
 
 -- "K ticks (1 to 65535)"
 unfoldable pub least : ℕ → ℕ

@@ -26,7 +26,7 @@ cond-below false x y n p q = q
 -- every number of a letter is below the cap
 pub largest-below : (letter : ℕ) → largest letter < cap
 unfolding largest
-largest-below letter = search (cond-below, lit<, tt) depth 12
+largest-below letter = search (cond-below, lit<, tt) depth 14
 
 -- the least number is 0 or 1
 pub least-below : (letter : ℕ) → least letter < 2

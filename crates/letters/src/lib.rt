@@ -16,7 +16,7 @@ pub const TOO_SMALL: u8 = 7;
 // Why a word is neither `yes` nor `no`.
 pub const NO_CHOICE: u8 = 12;
 
-// The letters: a flag, a thread, a record, a size of the store, a byte, a place of a queue, a word, ticks, a code with its sign, and yes or no.
+// The letters: a flag, a thread, a record, a size of the store, a byte, a place of a queue, a word, ticks, a code with its sign, yes or no, and how many places are lent.
 const FLAG: u8 = b'1';
 
 pub const THREAD: u8 = b't';
@@ -36,6 +36,8 @@ const TICKS: u8 = b'k';
 const CODE: u8 = b'c';
 
 const CHOICE: u8 = b'y';
+
+const PLACES: u8 = b'l';
 
 // What stands before a number below 0.
 const MINUS: u8 = b'-';
@@ -70,6 +72,9 @@ fn largest_of(letter: u8) -> u64
     }
     if letter == WORD {
         return 4294967295;
+    }
+    if letter == PLACES {
+        return 4200;
     }
     65535
 }

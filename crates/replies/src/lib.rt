@@ -144,9 +144,11 @@ outcome X                X, code, source, count and words
 report                   the same without words, for each thread
 show                     every field in use of every thread
 search X                 which sender the search of X finds, or none, and how many queue places it read
+count L                  how many lists of L steps (10 at most) end with which codes, thread 0 first, for at most 4 threads
 say WORD ..              the words, as a mark
 store K V                lends a store of K words, each V
 records K                lends K records to the report
+places K                 lends K places to the count, which takes 4096
 size N                   sets the table's N by force
 set X FIELD ..           sets a field of thread X by force: flags, phase, left, owner, outcome, copied, waking, queue, queuelength, operation, target, present
 help                     this
