@@ -1,4 +1,4 @@
-// The commands that lend a store or records, note a row of rules, or set a field by force, as no call would.
+// The commands that lend a store, records or places, note a row of rules, or set a field by force, as no call would.
 use crate::sessions::Reply;
 use crate::sessions::Session;
 use crate::sessions::only_text;
@@ -48,6 +48,13 @@ pub fn store(session: Session, named: &[u32], store: &mut [u32], out: &mut [u8])
 pub fn records(session: Session, named: &[u32], out: &mut [u8]) -> Reply {
     let mut next = session;
     next.records = number_at(named, 0) as usize;
+    lent(next, out)
+}
+
+// From now on so many places are lent to a count.
+pub fn places(session: Session, named: &[u32], out: &mut [u8]) -> Reply {
+    let mut next = session;
+    next.places = number_at(named, 0) as usize;
     lent(next, out)
 }
 

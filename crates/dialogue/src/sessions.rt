@@ -7,8 +7,10 @@ use crate::calls;
 use crate::fields;
 use commands::BEGIN_ROW;
 use commands::CANCEL_ROW;
+use commands::COUNT_ROW;
 use commands::HELP_ROW;
 use commands::OUTCOME_ROW;
+use commands::PLACES_ROW;
 use commands::Parsed;
 use commands::RECORDS_ROW;
 use commands::REPORT_ROW;
@@ -24,16 +26,18 @@ use commands::STORE_ROW;
 use commands::TABLE_ROW;
 use commands::TICK_ROW;
 use forcing::byte_at;
+use forcing::number_at;
 use model::Rules;
 use model::Table;
 use numbers::lesser;
 
-// What a dialogue keeps: a table, how many words are lent as a store, how many records to the report, and the rows noted for the next loading.
+// What a dialogue keeps: a table, how many words are lent as a store, how many records to the report, the rows noted for the next loading, and how many places are lent to a count.
 pub struct Session {
     pub table: Table,
     pub words: usize,
     pub records: usize,
     pub noted: Rules,
+    pub places: usize,
 }
 
 // What is kept after a line, and where its answer ends.
@@ -42,13 +46,14 @@ pub struct Reply {
     pub end: usize,
 }
 
-// "At first there is a table of no thread, with no store and no records".
+// "At first there is a table of no thread, with no store and no records", and for a count "4096" places.
 pub fn new_session() -> Session {
     Session {
         table: core::new_table(0),
         words: 0,
         records: 0,
         noted: rules::no_rules(),
+        places: 4096,
     }
 }
 
@@ -106,6 +111,7 @@ fn told(
         SHOW_ROW => telling::show(table, lent, out),
         SAY_ROW => said(line, out),
         SEARCH_ROW => telling::search(table, x, out),
+        COUNT_ROW => telling::count(table, number_at(numbers, 0) as u64, session.places, out),
         _ => replies::put_help(out, 0),
     }
 }
@@ -113,7 +119,7 @@ fn told(
 // Whether a command only prints.
 fn only_prints(row: u8) -> bool {
     match row {
-        OUTCOME_ROW | REPORT_ROW | SHOW_ROW | SAY_ROW | SEARCH_ROW | HELP_ROW => true,
+        OUTCOME_ROW | REPORT_ROW | SHOW_ROW | SAY_ROW | SEARCH_ROW | COUNT_ROW | HELP_ROW => true,
         _ => false,
     }
 }
@@ -136,6 +142,7 @@ fn forced(
     match row {
         STORE_ROW => fields::store(session, numbers, store, out),
         RECORDS_ROW => fields::records(session, numbers, out),
+        PLACES_ROW => fields::places(session, numbers, out),
         SIZE_ROW => fields::size(session, numbers, out),
         RULE_ROW => fields::rule(session, number, numbers, out),
         _ => fields::set(session, command, numbers, out),

@@ -1,9 +1,11 @@
-// What the console tells of a table: an outcome, the report, every field, what a search finds, how rules fit; by the public calls, as text in a caller's bytes.
+// What the console tells of a table: an outcome, the report, every field, what a search finds, how rules fit, how lists of steps end; by the public calls, as text in a caller's bytes.
+mod counted;
 mod lines;
 mod loadings;
 mod reports;
 mod shows;
 
+pub use counted::count;
 pub use lines::put_line;
 pub use lines::put_word;
 pub use loadings::put_loaded;
