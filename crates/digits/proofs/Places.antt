@@ -23,10 +23,12 @@ module _ {n : ℕ} {outcomes : List Outcome} (C : Coded n outcomes) where
   unfolding placeFrom
   placed-more i p d some is (within, placed) =
       let more : n - (i - 1) ≡ suc (n - i) = omega arith in
-      let next : suc (i - 1) ≡ i = omega arith in
-      (omega arith, ap (λ (k : ℕ). k + 8 * p) is
-      ∙ ap (λ (k : ℕ). digitOf (codeAt outcomes (i - 1)) + 8 * k) (placed ∙ ap (λ (j : ℕ). placeFrom (codeAt outcomes) (n - i) j) (sym next))
-      ∙ sym (ap (λ (m : ℕ). placeFrom (codeAt outcomes) m (i - 1)) more))
+      let next : suc (i - 1) ≡ i = omega arith in (
+        omega arith,
+        ap (λ (k : ℕ). k + 8 * p) is
+            ∙ ap (λ (k : ℕ). digitOf (codeAt outcomes (i - 1)) + 8 * k) (placed ∙ ap (λ (j : ℕ). placeFrom (codeAt outcomes) (n - i) j) (sym next))
+            ∙ sym (ap (λ (m : ℕ). placeFrom (codeAt outcomes) m (i - 1)) more),
+      )
 
   -- what is read is below 4096
   pub placed-small : (i p : ℕ) → Placed n outcomes i p → p < countPlaces

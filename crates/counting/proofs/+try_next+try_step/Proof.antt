@@ -195,9 +195,10 @@ module _ (t : ℕ) where
   same-on-requires : try-step-lts.Need-try-next-requires-2 (claims t) (try-step-at t) try-step.Post
   same-on-requires c κs =
       let m = c .before .before .before in
-      let s = start m in
-      (omega (arith, s .pre .0, below s, s .pre .1 .0 .front .few, s .pre .1 .0 .front .size, s .pre .1 .0 .some),
-      trying-on (start m .pre .1 .0) (below (start m)) (tried (found m) .before .before .try-next .ensures) (tried (found m) .before .before .try-next .kept .1 .1 .1 .0) (stepped-same m (c .before .before .if1 .taken)) (c .before .if2 .left))
+      let s = start m in (
+        omega (arith, s .pre .0, below s, s .pre .1 .0 .front .few, s .pre .1 .0 .front .size, s .pre .1 .0 .some),
+        trying-on (start m .pre .1 .0) (below (start m)) (tried (found m) .before .before .try-next .ensures) (tried (found m) .before .before .try-next .kept .1 .1 .1 .0) (stepped-same m (c .before .before .if1 .taken)) (c .before .if2 .left),
+      )
 
   same-length-on : try-step-lts.Need-same-length-2 (claims t) (try-step-at t) try-step.Post
   same-length-on c =

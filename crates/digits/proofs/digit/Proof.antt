@@ -18,46 +18,37 @@ use Rattle.digits.proofs.digit.Lts as lts
 differs : (d c : ℤ) (b : ℕ) → ofZ w32 d ≡ b → (ofZ w32 c ≡ b → ⊥) → sameCode d c ≡ false
 differs d c b is n = code-differs d c (λ e. n (ap (ofZ w32) (sym e) ∙ is))
 
-
 returns : tie.Need-returns
 unfolding digitOf standing
 returns c = sym (ap digitOf (sym (toZ-ofZ (c .before .fits .code)) ∙ ap (toZ w32) (c .match .keys1)))
-
 
 returns-2 : tie.Need-returns-2
 unfolding digitOf standing
 returns-2 c = sym (ap digitOf (sym (toZ-ofZ (c .before .fits .code)) ∙ ap (toZ w32) (c .match .keys2)))
 
-
 returns-3 : tie.Need-returns-3
 unfolding digitOf standing
 returns-3 c = sym (ap digitOf (sym (toZ-ofZ (c .before .fits .code)) ∙ ap (toZ w32) (c .match .keys3)))
-
 
 returns-4 : tie.Need-returns-4
 unfolding digitOf standing
 returns-4 c = sym (ap digitOf (sym (toZ-ofZ (c .before .fits .code)) ∙ ap (toZ w32) (c .match .keys4)))
 
-
 returns-5 : tie.Need-returns-5
 unfolding digitOf standing
 returns-5 c = sym (ap digitOf (sym (toZ-ofZ (c .before .fits .code)) ∙ ap (toZ w32) (c .match .keys5)))
-
 
 returns-6 : tie.Need-returns-6
 unfolding digitOf standing
 returns-6 c = sym (ap digitOf (sym (toZ-ofZ (c .before .fits .code)) ∙ ap (toZ w32) (c .match .keys6)))
 
-
 returns-7 : tie.Need-returns-7
 unfolding digitOf standing
 returns-7 c = sym (ap digitOf (sym (toZ-ofZ (c .before .fits .code)) ∙ ap (toZ w32) (c .match .keys7)))
 
-
 returns-8 : tie.Need-returns-8
 unfolding digitOf standing
 returns-8 c = sym (ap digitOf (sym (toZ-ofZ (c .before .fits .code)) ∙ ap (toZ w32) (c .match .keys8)))
-
 
 returns-9 : tie.Need-returns-9
 unfolding digitOf standing
