@@ -10,14 +10,13 @@ use lib.Seq.{take-length}
 use lib.Dec.{eqb, lit≤}
 use Rattle.model.specs.declared.Table.{Table}
 use Rattle.model.specs.Lists.{bit, upTo}
-use Rattle.model.specs.Counting.{placeFrom, placeOf, countPlaces, countOf}
+use Rattle.model.specs.Counting.{countPlaces, countOf}
 use Rattle.laws.proofs.Below.{take-up-to}
 use Rattle.step_lists.specs.Firsts.{countFrom}
 use Rattle.step_lists.proofs.Totals.{count-few, count-all, count-none}
 use Rattle.few.specs.declared.Few.{Few}
-use Rattle.few.specs.Front.{Front, outcomesIn}
-use Rattle.few.proofs.Fronts.{place-front}
-use Rattle.digits.specs.Coded.{codeAt}
+use Rattle.few.specs.Front.{Whole}
+use Rattle.few.proofs.Fronts.{place-in-counts}
 use Rattle.counting.specs.Trying.{Trying, Counted, Countable, CountedAll}
 use Rattle.counting.proofs.Turns.{one-more}
 
@@ -39,25 +38,24 @@ module _ {f : Few} {k : ℕ} {counts : List ℕ} (C : Countable f k counts) wher
   none p below = ap (λ (l : List ℕ). getD l p 0) (C .zeros) ∙ getD-replicate {A = ℕ} countPlaces p 0 0 below
 
   -- a list of no step leads to where it starts
-  module _ (q : ℕ) (empty : k ≡ 0) (is : q ≡ placeFrom (codeAt (outcomesIn f)) (f .n) 0) (small : q < countPlaces) where
-    pub start-in-counts : q < length counts
-    start-in-counts = omega (arith, long)
+  pub start-in-counts : f .place < length counts
+  start-in-counts = omega (arith, long, place-in-counts (C .front))
 
-    -- one there, from nothing
-    one : (p : ℕ) → p < countPlaces → getD (set counts q 1) p 0 ≡ bit (eqb q p)
-    one p below =
-        let first : getD counts q 0 + 1 ≡ 1 = omega (arith, none q small) in
-        sym (ap (λ (v : ℕ). getD (set counts q v) p 0) first) ∙ one-more counts q p start-in-counts ∙ omega (arith, none p below)
+  -- one there, from nothing
+  one : (p : ℕ) → p < countPlaces → getD (set counts (f .place) 1) p 0 ≡ bit (eqb (f .place) p)
+  one p below =
+      let first : getD counts (f .place) 0 + 1 ≡ 1 = omega (arith, none (f .place) (place-in-counts (C .front))) in
+      sym (ap (λ (v : ℕ). getD (set counts (f .place) v) p 0) first) ∙ one-more counts (f .place) p start-in-counts ∙ omega (arith, none p below)
 
-    pub counted-start : CountedAll f k (set counts q 1)
-    counted-start t F = list-of (set counts q 1) countPlaces (countOf t k) (length-set counts q 1 ∙ long) (λ p below.
-        one p below ∙ ap (λ (j : ℕ). bit (eqb j p)) (is ∙ place-front F) ∙ sym (count-none t p) ∙ ap (λ (j : ℕ). countOf t j p) (sym empty))
+  pub counted-start : k ≡ 0 → CountedAll f k (set counts (f .place) 1)
+  counted-start empty t F = list-of (set counts (f .place) 1) countPlaces (countOf t k) (length-set counts (f .place) 1 ∙ long) (λ p below.
+      one p below ∙ ap (λ (j : ℕ). bit (eqb j p)) (F .place) ∙ sym (count-none t p) ∙ ap (λ (j : ℕ). countOf t j p) (sym empty))
 
   -- with steps to make, all threads' lists are tried
   module _ (some : 1 ≤ k) where
-    all-lists : (t : Table) → Front f t → (p : ℕ) → countFrom t (f .n - 0) 0 (k - 1) p ≡ countOf t k p
+    all-lists : (t : Table) → Whole f t → (p : ℕ) → countFrom t (f .n - 0) 0 (k - 1) p ≡ countOf t k p
     all-lists t F p =
-        let whole : f .n - 0 ≡ t .n = omega (arith, F .size) in
+        let whole : f .n - 0 ≡ t .n = omega (arith, F .front .size) in
         let here : suc (k - 1) ≡ k = omega arith in
         ap (λ (m : ℕ). countFrom t m 0 (k - 1) p) whole ∙ sym (count-all t (k - 1) p) ∙ ap (λ (j : ℕ). countOf t j p) here
 
@@ -67,7 +65,7 @@ module _ {f : Few} {k : ℕ} {counts : List ℕ} (C : Countable f k counts) wher
       front = C .front;
       some = some;
       long = long;
-      room = λ p below. omega (arith, none p below, all-lists (C .whole) (C .front) p, count-small (C .whole) k p (C .front .few) (C .short));
+      room = λ p below. omega (arith, none p below, all-lists (C .whole) (C .front) p, count-small (C .whole) k p (C .front .front .few) (C .short));
     }
 
     pub counted-all : {after : List ℕ} → length after ≡ length counts → Counted f 0 k counts after → CountedAll f k after

@@ -3,24 +3,20 @@ use mathlib.Core.Path.{_≡_, refl, sym, ap, _∙_, subst}
 use mathlib.Core.Logic.{_≢_}
 use mathlib.Core.Bool.{Bool}
 use mathlib.Core.List.{List}
-use Prim.Native.Nat.{ℕ, zero, suc, _+_, _-_, _*_, _≤_, _<_}
+use Prim.Native.Nat.{ℕ, zero, suc, _+_, _-_, _≤_, _<_}
 use native.Mathlib.Omega.{arith}
 use lib.ListN.{length, getD, set}
 use lib.Seq.{getD-set-same, getD-set-other}
 use lib.Dec.{eqb}
 use borrow.Author.Tests.{eq-eqb, ne-eqb}
-use Rattle.model.specs.declared.Outcome.{Outcome}
 use Rattle.model.specs.declared.Table.{Table}
 use Rattle.model.specs.Lists.{bit}
-use Rattle.model.specs.Counting.{afterStep, placeFrom, placeOf, countPlaces, countOf}
+use Rattle.model.specs.Counting.{afterStep, placeOf, countPlaces, countOf}
 use Rattle.model.proofs.Laws.{same?}
 use Rattle.step_lists.specs.Firsts.{countFrom}
-use Rattle.step_lists.proofs.Steps.{step-size}
 use Rattle.step_lists.proofs.Totals.{count-all, count-none}
 use Rattle.few.specs.declared.Few.{Few}
-use Rattle.few.specs.Front.{Front, outcomesIn}
-use Rattle.few.proofs.Fronts.{coded-front, place-front}
-use Rattle.digits.specs.Coded.{codeAt, Coded}
+use Rattle.few.specs.Front.{Whole}
 use Rattle.counting.specs.Trying.{Trying, Counted}
 
 -- one more at place q
@@ -32,7 +28,7 @@ one-more counts q p l = same? p q
 
 -- the four threads g are those after a step of thread x of the four threads f
 abbrev pub SteppedTo : Few → ℕ → Few → Type 0
-SteppedTo f x g = (t : Table) → Front f t → Front g (afterStep x t)
+SteppedTo f x g = (t : Table) → Whole f t → Whole g (afterStep x t)
 
 module _ {f : Few} {x left : ℕ} {counts : List ℕ} (T : Trying f x left counts) where
   -- no thread is left
@@ -53,37 +49,26 @@ module _ {f : Few} {x left : ℕ} {counts : List ℕ} (T : Trying f x left count
     pub trying-later : Trying f (x + 1) left counts
     trying-later = record { whole = T .whole; front = T .front; some = T .some; long = T .long; room = λ p l. omega (arith, T .room p l, first (T .whole) (left - 1) p) }
 
-    -- which has come, and the step is made
-    module _ {after : List ℕ} (later : Counted f (x + 1) left counts after) (same : length after ≡ length counts) {g : Few} (S : SteppedTo f x g) where
-      -- as many threads
-      size : g .n ≡ f .n
-      size = S (T .whole) (T .front) .size ∙ step-size (T .whole) x ∙ sym (T .front .size)
-
-      -- its outcomes have a place
-      pub coded-after : Coded (g .n) (outcomesIn g)
-      coded-after = coded-front (S (T .whole) (T .front))
-
-      -- it was the last step: its place gains one
-      module _ (last : left ≡ 1) (q : ℕ) (is : q ≡ placeFrom (codeAt (outcomesIn g)) (g .n) 0) (small : q < countPlaces) where
-        one-list : (t : Table) → Front f t → (p : ℕ) → countOf (afterStep x t) (left - 1) p ≡ bit (eqb q p)
+    -- which has come
+    module _ {after : List ℕ} (later : Counted f (x + 1) left counts after) (same : length after ≡ length counts) where
+      -- the step was the last one, and led to place q, which gains one
+      module _ (last : left ≡ 1) (q : ℕ) (leads : (t : Table) → Whole f t → q ≡ placeOf (afterStep x t)) (small : q < countPlaces) where
+        one-list : (t : Table) → Whole f t → (p : ℕ) → countOf (afterStep x t) (left - 1) p ≡ bit (eqb q p)
         one-list t F p =
             let none : left - 1 ≡ 0 = omega arith in
-            ap (λ (k : ℕ). countOf (afterStep x t) k p) none ∙ count-none (afterStep x t) p ∙ ap (λ (k : ℕ). bit (eqb k p)) (sym (is ∙ place-front (S t F)))
+            ap (λ (k : ℕ). countOf (afterStep x t) k p) none ∙ count-none (afterStep x t) p ∙ ap (λ (k : ℕ). bit (eqb k p)) (sym (leads t F))
 
         pub one-fits : getD after q 0 + 1 < 4294967296
         one-fits = omega (arith, T .room q small, first (T .whole) (left - 1) q, later .gains (T .whole) (T .front) q small, one-list (T .whole) (T .front) q, ap bit (eq-eqb q q refl))
 
-        pub in-counts : q < length after
-        in-counts = omega (arith, same, T .long)
-
         pub counted-last : Counted f x left counts (set after q (getD after q 0 + 1))
-        counted-last = record { gains = λ t F p l. one-more after q p in-counts ∙ omega (arith, first t (left - 1) p, later .gains t F p l, one-list t F p) }
+        counted-last = record { gains = λ t F p l. let inside : q < length after = omega (arith, same, T .long) in one-more after q p inside ∙ omega (arith, first t (left - 1) p, later .gains t F p l, one-list t F p) }
 
       -- or lists go on from there
-      module _ (more : left ≢ 1) where
-        rest-lists : (t : Table) → Front f t → (p : ℕ) → countFrom (afterStep x t) (g .n - 0) 0 (left - 1 - 1) p ≡ countOf (afterStep x t) (left - 1) p
+      module _ (more : left ≢ 1) {g : Few} (S : SteppedTo f x g) where
+        rest-lists : (t : Table) → Whole f t → (p : ℕ) → countFrom (afterStep x t) (g .n - 0) 0 (left - 1 - 1) p ≡ countOf (afterStep x t) (left - 1) p
         rest-lists t F p =
-            let all : g .n - 0 ≡ afterStep x t .n = omega (arith, S t F .size) in
+            let all : g .n - 0 ≡ afterStep x t .n = omega (arith, S t F .front .size) in
             let here : suc (left - 1 - 1) ≡ left - 1 = omega (arith, T .some) in
             ap (λ (m : ℕ). countFrom (afterStep x t) m 0 (left - 1 - 1) p) all ∙ sym (count-all (afterStep x t) (left - 1 - 1) p) ∙ ap (λ (k : ℕ). countOf (afterStep x t) k p) here
 

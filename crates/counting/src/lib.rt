@@ -15,32 +15,36 @@ fn try_step(table: Few, x: u8, left: u8, counts: &mut [u32])
     let other_number = phases::other_number(own);
     let j = core::other_or_own(other_number, x) as usize;
     let other = table.threads[j];
-    let both = few::step_both(x, other_number, own, other);
-    if both.stays {
+    let change = few::change_of(x, other_number, own, other);
+    let ending = change.ending;
+    if actions::is_ending(ending) {
+        let both = endings::end_threads(x, ending, own, other);
+        let mine = both.own;
+        let theirs = both.other;
+        let p = few::place_with(table, i, mine, j, theirs);
         if left == 1 {
-            let outcomes = few::outcomes_of(table);
-            let p = digits::place(table.n, outcomes);
             counts[p] += 1;
             return;
         }
+        let mut next = table;
+        next.threads[j] = theirs;
+        next.threads[i] = mine;
+        next.place = p as u16;
+        try_next(next, 0, left - 1, counts);
+        return;
+    }
+    if left == 1 {
+        counts[table.place as usize] += 1;
+        return;
+    }
+    let answer = change.answer;
+    if few::changes_nothing(answer) {
         try_next(table, 0, left - 1, counts);
         return;
     }
-    let mine = both.own;
-    let theirs = both.other;
-    if left == 1 {
-        let mut outcomes = few::outcomes_of(table);
-        let ended = theirs.outcome;
-        outcomes[j] = ended;
-        let ended = mine.outcome;
-        outcomes[i] = ended;
-        let p = digits::place(table.n, outcomes);
-        counts[p] += 1;
-        return;
-    }
     let mut next = table;
-    next.threads[j] = theirs;
-    next.threads[i] = mine;
+    next.threads[j] = actions::change_other(change, other);
+    next.threads[i] = actions::change_own(change, own);
     try_next(next, 0, left - 1, counts);
 }
 
@@ -60,9 +64,7 @@ pub fn count_lists(table: Few, length: u8, counts: &mut [u32])
     ensures { λ _. ⌜ CountedAll table length (now (counts .exit)) ⌝ }
 {
     if length == 0 {
-        let outcomes = few::outcomes_of(table);
-        let p = digits::place(table.n, outcomes);
-        counts[p] = 1;
+        counts[table.place as usize] = 1;
         return;
     }
     try_next(table, 0, length, counts);

@@ -1,32 +1,44 @@
-// Four threads for a table of at most four, few enough to be copied before each choice of thread; and a step of one of them, without a store.
+// Four threads for a table of at most four, few enough to be copied before each choice of thread; and what a step of one of them changes, without a store.
 ghost use mathlib.Core.Path.{_≡_};
-ghost use lib.ListN.{take};
-ghost use Rattle.model.specs.Counting.{countedThreads};
-ghost use Rattle.few.specs.Front.{outcomesIn, changesNothing, Steppable, Both};
+ghost use Prim.Native.Nat.{_≤_, _<_};
+ghost use Rattle.model.specs.Counting.{countedThreads, countPlaces, placeFrom};
+ghost use Rattle.actions.specs.Acted.{Acted};
+ghost use Rattle.phases.specs.Fit.{Fit};
+ghost use Rattle.digits.specs.Coded.{codeAt, Coded};
+ghost use Rattle.core.specs.Runnable.{Checked};
+ghost use Rattle.few.specs.Front.{Whole, outcomesIn, outcomesWith, changesNothing, decideHere};
+use actions::Change;
 use model::Answer;
 use model::Outcome;
 use model::Table;
 use model::Thread;
 
-// The first n of four threads are in use.
+// The first n of four threads are in use; place is that of their codes.
 pub struct Few {
     pub n: u8,
     pub threads: [Thread; 4],
+    pub place: u16,
 }
 
 // The first four threads of a table.
 pub fn few_of(table: Table) -> Few
-    ensures size { λ r. ⌜ r .n ≡ table .n ⌝ }
-    ensures threads { λ r. ⌜ r .threads ≡ take countedThreads (table .threads) ⌝ }
+    requires { ⌜ Checked table ⌝ }
+    requires { ⌜ table .n ≤ countedThreads ⌝ }
+    ensures { λ r. ⌜ Whole r table ⌝ }
 {
     let first = table.threads[0];
     let second = table.threads[1];
     let third = table.threads[2];
     let fourth = table.threads[3];
-    Few {
+    let unplaced = Few {
         n: table.n,
         threads: [first, second, third, fourth],
-    }
+        place: 0,
+    };
+    let outcomes = outcomes_of(unplaced);
+    let mut few = unplaced;
+    few.place = digits::place(table.n, outcomes) as u16;
+    few
 }
 
 // Their outcomes.
@@ -44,15 +56,35 @@ pub fn outcomes_of(few: Few) -> [Outcome; 4]
     [a, b, c, d]
 }
 
-// The two threads of a step after it, and whether they stay as they were.
-pub struct Stepped {
-    pub stays: bool,
-    pub own: Thread,
-    pub other: Thread,
+// The place of their codes with own for thread i and other for thread j.
+pub fn place_with(few: Few, i: usize, own: Thread, j: usize, other: Thread) -> usize
+    requires { ⌜ (i < countedThreads) × (j < countedThreads) ⌝ }
+    requires { ⌜ Coded (few .n) (outcomesWith few i own j other) ⌝ }
+    ensures place { λ r. ⌜ r ≡ placeFrom (codeAt (outcomesWith few i own j other)) (few .n) 0 ⌝ }
+    ensures small { λ r. ⌜ r < countPlaces ⌝ }
+{
+    let mut outcomes = outcomes_of(few);
+    let theirs = other.outcome;
+    outcomes[j] = theirs;
+    let mine = own.outcome;
+    outcomes[i] = mine;
+    digits::place(few.n, outcomes)
+}
+
+// What a step of thread x changes, with the other thread o, or nobody; its words go nowhere.
+pub fn change_of(x: u8, o: u8, own: Thread, other: Thread) -> Change
+    requires { ⌜ Fit o own ⌝ }
+    ensures { λ r. ⌜ Acted (decideHere x own other) x own other r ⌝ }
+{
+    if own.owner != threads::NOBODY {
+        return actions::stay_with(Answer::Held, own, other);
+    }
+    let mut words = [0u32; 8];
+    phases::step_threads(x, o, own, other, &mut words)
 }
 
 // A step with this answer changes nothing.
-fn changes_nothing(answer: Answer) -> bool
+pub fn changes_nothing(answer: Answer) -> bool
     ensures { λ r. ⌜ r ≡ changesNothing answer ⌝ }
 {
     match answer {
@@ -65,41 +97,5 @@ fn changes_nothing(answer: Answer) -> bool
         Answer::Held => true,
         Answer::Wants => true,
         Answer::Asleep => true,
-    }
-}
-
-// Thread x makes one step, with the other thread o, or nobody; its words go nowhere.
-pub fn step_both(x: u8, o: u8, own: Thread, other: Thread) -> Stepped
-    requires { ⌜ Steppable x o own other ⌝ }
-    ensures { λ r. ⌜ Both x own other r ⌝ }
-{
-    if own.owner != threads::NOBODY {
-        return Stepped {
-            stays: true,
-            own: own,
-            other: other,
-        };
-    }
-    let mut words = [0u32; 8];
-    let change = phases::step_threads(x, o, own, other, &mut words);
-    let ending = change.ending;
-    if actions::is_ending(ending) {
-        let both = endings::end_threads(x, ending, own, other);
-        let mine = both.own;
-        let theirs = both.other;
-        return Stepped {
-            stays: false,
-            own: mine,
-            other: theirs,
-        };
-    }
-    let answer = change.answer;
-    let stays = changes_nothing(answer);
-    let mine = actions::change_own(change, own);
-    let theirs = actions::change_other(change, other);
-    Stepped {
-        stays: stays,
-        own: mine,
-        other: theirs,
     }
 }

@@ -1,29 +1,34 @@
-use mathlib.Core.Path.{_≡_, sym, ap, _∙_, subst}
-use mathlib.Core.Bool.{true}
-use mathlib.Core.List.{List}
+use mathlib.Core.Path.{_≡_, sym, _∙_}
+use mathlib.Core.Bool.{false}
 use Prim.Native.Nat.{ℕ, _+_, _-_, _*_, _<_}
 use native.Mathlib.Omega.{arith}
-use lib.ListN.{length, set, length-set}
+use lib.ListN.{getD, length-set}
 use borrow.Author.Needs.{needs}
 use borrow.Fn.Kinds.{In}
 use borrow.Fn.PlainCycle.{Measures, is, falls, and}
-use Rattle.model.specs.declared.Outcome.{Outcome}
-use Rattle.model.specs.Counting.{placeFrom}
+use Rattle.model.specs.declared.Table.{Table}
+use Rattle.model.specs.Threads.{zeroThread}
+use Rattle.model.specs.Counting.{afterStep, placeOf}
+use Rattle.actions.specs.Acted.{endingAction, ends}
 use Rattle.few.specs.declared.Few.{Few}
-use Rattle.few.specs.Front.{outcomesIn}
-use Rattle.few.proofs.Fronts.{putFew, outcomes-both, in-four, queue-front, other-in-four, steppable, front-after, front-stays}
-use Rattle.digits.specs.Coded.{codeAt, Coded}
-use Rattle.counting.proofs.Turns.{SteppedTo, counted-none, trying-later, coded-after, one-fits, counted-last, trying-on, counted-on}
+use Rattle.few.specs.Front.{Whole}
+use Rattle.few.proofs.Fronts.{putBoth, in-four, queue-front, other-in-four, fits-front, waits-front, coded-ended, leads-ended, whole-ended, leads-on, whole-changed, whole-same, place-in-counts}
+use Rattle.few.proofs.Stepping.{Leaves, leaves-ended, leaves-changed, leaves-same}
+use Rattle.counting.proofs.Turns.{SteppedTo, counted-none, trying-later, one-fits, counted-last, trying-on, counted-on}
 use Rattle.counting.proofs.try_next.Reads as try-next
 use Rattle.counting.proofs.try_next.Kinds as try-next-kinds
 use Rattle.counting.proofs.+try_next+try_step.Lts-try_next as try-next-lts
 use Rattle.counting.proofs.try_step.Reads as try-step
 use Rattle.counting.proofs.try_step.Kinds as try-step-kinds
 use Rattle.counting.proofs.+try_next+try_step.Lts-try_step as try-step-lts
+use Rattle.actions.proofs.change_other.Reads as change-other-reads
+use Rattle.actions.proofs.change_own.Reads as change-own-reads
+use Rattle.actions.proofs.is_ending.Reads as is-ending-reads
 use Rattle.core.proofs.other_or_own.Reads as other-or-own-reads
-use Rattle.digits.proofs.place.Reads as place-reads
-use Rattle.few.proofs.outcomes_of.Reads as outcomes-of-reads
-use Rattle.few.proofs.step_both.Reads as step-both-reads
+use Rattle.endings.proofs.end_threads.Reads as end-threads-reads
+use Rattle.few.proofs.change_of.Reads as change-of-reads
+use Rattle.few.proofs.changes_nothing.Reads as changes-nothing-reads
+use Rattle.few.proofs.place_with.Reads as place-with-reads
 use Rattle.phases.proofs.other_number.Reads as other-number-reads
 use Rattle.counting.proofs.+try_next+try_step.{statement}
 use Rattle.counting.proofs.+try_next+try_step.Tie.{close}
@@ -65,7 +70,7 @@ module _ (t : ℕ) where
 -- ---- try_step
 -- what it knows of its callees
 abbrev claims : ℕ → try-step-lts.Claims
-claims t = (try-next-below t, try-next.Post, other-number-reads.Asked, other-number-reads.Learnt, other-or-own-reads.Asked, other-or-own-reads.Learnt, step-both-reads.Asked, step-both-reads.Learnt, outcomes-of-reads.Asked, outcomes-of-reads.Learnt, place-reads.Asked, place-reads.Learnt)
+claims t = (try-next-below t, try-next.Post, other-number-reads.Asked, other-number-reads.Learnt, other-or-own-reads.Asked, other-or-own-reads.Learnt, change-of-reads.Asked, change-of-reads.Learnt, is-ending-reads.Asked, is-ending-reads.Learnt, end-threads-reads.Asked, end-threads-reads.Learnt, place-with-reads.Asked, place-with-reads.Learnt, changes-nothing-reads.Asked, changes-nothing-reads.Learnt, change-other-reads.Asked, change-other-reads.Learnt, change-own-reads.Asked, change-own-reads.Learnt)
 
 module _ (t : ℕ) where
   -- ---- the places of the code from which the needs below speak; each leads back to the one before
@@ -84,7 +89,7 @@ module _ (t : ℕ) where
 
   -- thread x has a place among the four
   own-there : (d : Tried) → entry d .args .x < 4
-  own-there d = in-four (entry d .pre .1 .0 .front) (entry d .args .x) (below (entry d))
+  own-there d = in-four (entry d .pre .1 .0 .front .front) (entry d .args .x) (below (entry d))
 
   -- the other thread of the step is known
   abbrev Found : Type 0
@@ -95,34 +100,71 @@ module _ (t : ℕ) where
 
   -- it has a place among the four
   other-there : (p : Found) → p .other-or-own .result < 4
-  other-there p = let s = entry (tried p) in other-in-four (s .pre .1 .0 .front) (s .args .x) (below s) _ _ (p .before .other-number .ensures) (p .other-or-own .ensures)
+  other-there p = let s = entry (tried p) in other-in-four (s .pre .1 .0 .front .front) (s .args .x) (below s) _ _ (p .before .other-number .ensures) (p .other-or-own .ensures)
 
-  -- the step is made
+  -- what the step changes is known
   abbrev Made : Type 0
-  Made = try-step-lts.After-step-both (claims t) (try-step-at t) try-step.Post
+  Made = try-step-lts.After-change-of (claims t) (try-step-at t) try-step.Post
 
   abbrev found : Made → Found
   found m = m .before .before
 
+  abbrev turn : Made → Tried
+  turn m = tried (found m)
+
   abbrev start : Made → Entry
-  start m = entry (tried (found m))
+  start m = entry (turn m)
 
-  -- where it changes nothing, the four threads are as they were
-  stepped-same : (m : Made) → m .step-both .result .stays ≡ true → SteppedTo (start m .args .t1) (start m .args .x) (start m .args .t1)
-  stepped-same m stays u F =
-      front-stays F (start m .args .x) (below (start m)) _ _ (found m .before .other-number .ensures) (found m .other-or-own .ensures) (m .step-both .ensures) stays
+  -- it ends something, and both threads are known
+  abbrev Ended : Type 0
+  Ended = try-step-lts.After-theirs (claims t) (try-step-at t) try-step.Post
 
-  -- else two of them are put back
-  abbrev after : Made → Few
-  after m = putFew (start m .args .x) (m .step-both .result .own) (putFew (found m .other-or-own .result) (m .step-both .result .other) (start m .args .t1))
+  abbrev ended-made : Ended → Made
+  ended-made e = e .before .before .before .before .before
 
-  stepped-two : (m : Made) → SteppedTo (start m .args .t1) (start m .args .x) (after m)
-  stepped-two m u F =
-      front-after F (start m .args .x) (below (start m)) _ _ (found m .before .other-number .ensures) (found m .other-or-own .ensures) (m .step-both .ensures)
+  leaves : (e : Ended) → let m = ended-made e in Leaves (start m .args .x) (getD (start m .args .t1 .threads) (start m .args .x) zeroThread) (getD (start m .args .t1 .threads) (found m .other-or-own .result) zeroThread)
+      (e .before .before .end-threads .result .own) (e .before .before .end-threads .result .other)
+  leaves e =
+      let m = ended-made e in
+      let taken = e .before .before .before in
+      leaves-ended _ _ _ (m .change-of .result) (m .change-of .ensures) _ _ (sym (taken .if1 .taken) ∙ taken .before .is-ending .ensures) (e .before .before .end-threads .ensures)
+
+  -- with their place
+  abbrev Placed : Type 0
+  Placed = try-step-lts.After-place-with (claims t) (try-step-at t) try-step.Post
+
+  abbrev placed-made : Placed → Made
+  placed-made d = ended-made (d .before)
+
+  abbrev ended-after : Placed → Few
+  ended-after d =
+      let m = placed-made d in
+      putBoth (start m .args .x) (d .before .before .before .end-threads .result .own) (found m .other-or-own .result) (d .before .before .before .end-threads .result .other) (d .place-with .result) (start m .args .t1)
+
+  -- it leads there
+  ended-leads : (d : Placed) (u : Table) → Whole (start (placed-made d) .args .t1) u → d .place-with .result ≡ placeOf (afterStep (start (placed-made d) .args .x) u)
+  ended-leads d u W = let m = placed-made d in leads-ended (W .front) (start m .args .x) (below (start m)) _ _ (found m .before .other-number .ensures) (found m .other-or-own .ensures) (leaves (d .before)) _ (d .place-with .ensures .0)
+
+  ended-to : (d : Placed) → SteppedTo (start (placed-made d) .args .t1) (start (placed-made d) .args .x) (ended-after d)
+  ended-to d u W = let m = placed-made d in whole-ended (W .front) (start m .args .x) (below (start m)) _ _ (found m .before .other-number .ensures) (found m .other-or-own .ensures) (leaves (d .before)) _ (d .place-with .ensures .0)
+
+  -- it ends nothing
+  abbrev GoesOn : Type 0
+  GoesOn = try-step-lts.Else1 (claims t) (try-step-at t) try-step.Post
+
+  abbrev goes-made : GoesOn → Made
+  goes-made g = g .before .before
+
+  goes : (g : GoesOn) → false ≡ ends (endingAction (goes-made g .change-of .result .ending))
+  goes g = sym (g .if1 .left) ∙ g .before .is-ending .ensures
+
+  -- it leads to the place where it started
+  goes-leads : (g : GoesOn) (u : Table) → Whole (start (goes-made g) .args .t1) u → start (goes-made g) .args .t1 .place ≡ placeOf (afterStep (start (goes-made g) .args .x) u)
+  goes-leads g u W = let m = goes-made g in leads-on (W .front) (start m .args .x) (below (start m)) _ _ (found m .before .other-number .ensures) (found m .other-or-own .ensures) _ (leaves-changed _ _ _ (m .change-of .result) (m .change-of .ensures) (goes g)) (W .place)
 
   -- ---- the needs, up to the step
   add-x : try-step-lts.Need-add-try-next (claims t) (try-step-at t) try-step.Post
-  add-x c = record { fits = omega (arith, in-four (c .before .pre .1 .0 .front) (c .before .args .x) (below (c .before))) }
+  add-x c = record { fits = omega (arith, in-four (c .before .pre .1 .0 .front .front) (c .before .args .x) (below (c .before))) }
 
   later-requires : try-step-lts.Need-try-next-requires (claims t) (try-step-at t) try-step.Post
   later-requires c κs = let s = c .before .before in (omega (arith, s .pre .0, below s), trying-later (s .pre .1 .0) (below s))
@@ -134,7 +176,7 @@ module _ (t : ℕ) where
   own-copied c = own-there c
 
   other-number-requires : try-step-lts.Need-other-number-requires (claims t) (try-step-at t) try-step.Post
-  other-number-requires c κs = let s = entry (c .before) in queue-front (s .pre .1 .0 .front) (s .args .x) (below s)
+  other-number-requires c κs = let s = entry (c .before) in queue-front (s .pre .1 .0 .front .front) (s .args .x) (below s)
 
   mul-other : try-step-lts.Need-mul-other (claims t) (try-step-at t) try-step.Post
   mul-other c = record { fits = omega (arith, other-there c) }
@@ -142,183 +184,178 @@ module _ (t : ℕ) where
   other-copied : try-step-lts.Need-element-copy-out-other (claims t) (try-step-at t) try-step.Post
   other-copied c = other-there c
 
-  step-both-requires : try-step-lts.Need-step-both-requires (claims t) (try-step-at t) try-step.Post
-  step-both-requires c κs =
+  change-of-requires : try-step-lts.Need-change-of-requires (claims t) (try-step-at t) try-step.Post
+  change-of-requires c κs =
       let p = c .before in
       let s = entry (tried p) in
-      steppable (s .pre .1 .0 .front) (s .args .x) (below s) _ _ (p .before .other-number .ensures) (p .other-or-own .ensures)
+      fits-front (s .pre .1 .0 .front .front) (s .args .x) (below s) _ _ (p .before .other-number .ensures) (p .other-or-own .ensures)
 
-  -- ---- the step changes nothing
-  -- it was the last one, and its place is known
-  abbrev SameLast : Type 0
-  SameLast = try-step-lts.After-place (claims t) (try-step-at t) try-step.Post
+  -- ---- the step ends something
+  end-threads-requires : try-step-lts.Need-end-threads-requires (claims t) (try-step-at t) try-step.Post
+  end-threads-requires c κs = let m = c .before .before in waits-front (start m .pre .1 .0 .front .front) (start m .args .x) (below (start m)) _ _ (found m .before .other-number .ensures) (found m .other-or-own .ensures) (m .change-of .result) (m .change-of .ensures)
 
-  abbrev same-made : SameLast → Made
-  same-made l = l .before .before .before .before
-
-  same-place : (l : SameLast) → l .place .result ≡ placeFrom (codeAt (outcomesIn (start (same-made l) .args .t1))) (start (same-made l) .args .t1 .n) 0
-  same-place l = l .place .ensures .0 ∙ ap (λ (o : List Outcome). placeFrom (codeAt o) (start (same-made l) .args .t1 .n) 0) (l .before .outcomes-of .ensures)
-
-  same-place-requires : try-step-lts.Need-place-requires (claims t) (try-step-at t) try-step.Post
-  same-place-requires c κs =
-      let m = c .before .before .before in
-      subst (Coded (start m .args .t1 .n)) (sym (c .outcomes-of .ensures)) (coded-after (start m .pre .1 .0) (below (start m)) (tried (found m) .before .before .try-next .ensures) (tried (found m) .before .before .try-next .kept .1 .1 .1 .0) (stepped-same m (c .before .before .if1 .taken)))
-
-  same-mul : try-step-lts.Need-mul-counts (claims t) (try-step-at t) try-step.Post
-  same-mul c = record { fits = omega (arith, c .place .ensures .1) }
-
-  same-read : try-step-lts.Need-slice-read-counts (claims t) (try-step-at t) try-step.Post
-  same-read c = let m = same-made (c .before) in omega (arith, c .before .place .ensures .1, tried (found m) .before .before .try-next .kept .1 .1 .1 .0, start m .pre .1 .0 .long)
-
-  same-add : try-step-lts.Need-add-counts (claims t) (try-step-at t) try-step.Post
-  same-add c =
-      let l = c .before in
-      let m = same-made l in
-      record { fits = one-fits (start m .pre .1 .0) (below (start m)) (tried (found m) .before .before .try-next .ensures) (tried (found m) .before .before .try-next .kept .1 .1 .1 .0) (stepped-same m (l .before .before .before .if1 .taken)) (l .before .before .if2 .taken) _ (same-place l) (l .place .ensures .1) }
-
-  same-write : try-step-lts.Need-slice-write-counts (claims t) (try-step-at t) try-step.Post
-  same-write c = let m = same-made (c .before) in omega (arith, c .before .place .ensures .1, tried (found m) .before .before .try-next .kept .1 .1 .1 .0, start m .pre .1 .0 .long)
-
-  same-length : try-step-lts.Need-same-length (claims t) (try-step-at t) try-step.Post
-  same-length c = let m = same-made (c .before) in simp length-set (tried (found m) .before .before .try-next .kept .1 .1 .1 .0)
-
-  same-returns : try-step-lts.Need-returns (claims t) (try-step-at t) try-step.Post
-  same-returns c =
-      let l = c .before in
-      let m = same-made l in
-      counted-last (start m .pre .1 .0) (below (start m)) (tried (found m) .before .before .try-next .ensures) (tried (found m) .before .before .try-next .kept .1 .1 .1 .0) (stepped-same m (l .before .before .before .if1 .taken)) (l .before .before .if2 .taken) _ (same-place l) (l .place .ensures .1)
-
-  -- or steps are left
-  same-left : try-step-lts.Need-sub-try-next (claims t) (try-step-at t) try-step.Post
-  same-left c = let m = c .before .before in omega (arith, start m .pre .1 .0 .some)
-
-  same-on-requires : try-step-lts.Need-try-next-requires-2 (claims t) (try-step-at t) try-step.Post
-  same-on-requires c κs =
-      let m = c .before .before .before in
-      let s = start m in (
-        omega (arith, s .pre .0, below s, s .pre .1 .0 .front .few, s .pre .1 .0 .front .size, s .pre .1 .0 .some),
-        trying-on (start m .pre .1 .0) (below (start m)) (tried (found m) .before .before .try-next .ensures) (tried (found m) .before .before .try-next .kept .1 .1 .1 .0) (stepped-same m (c .before .before .if1 .taken)) (c .before .if2 .left),
-      )
-
-  same-length-on : try-step-lts.Need-same-length-2 (claims t) (try-step-at t) try-step.Post
-  same-length-on c =
-      let m = c .before .before .before .before .before .before in
-      c .before .before .try-next2 .kept .1 .1 .1 .0 ∙ tried (found m) .before .before .try-next .kept .1 .1 .1 .0
-
-  same-returns-on : try-step-lts.Need-returns-2 (claims t) (try-step-at t) try-step.Post
-  same-returns-on c =
-      let e = c .before .before .before .before in
-      let m = e .before .before in
-      counted-on (start m .pre .1 .0) (below (start m)) (tried (found m) .before .before .try-next .ensures) (tried (found m) .before .before .try-next .kept .1 .1 .1 .0) (stepped-same m (e .before .if1 .taken)) (e .if2 .left) (c .before .before .try-next2 .ensures)
-
-  -- ---- it changes something
-  -- it was the last one
-  mul-outcomes : try-step-lts.Need-mul-outcomes (claims t) (try-step-at t) try-step.Post
-  mul-outcomes c = record { fits = omega (arith, other-there (found (c .before .before .before .before .before .before))) }
-
-  set-outcomes : try-step-lts.Need-array-set-from-outcomes (claims t) (try-step-at t) try-step.Post
-  set-outcomes c = other-there (found (c .before .before .before .before .before .before))
-
-  -- both outcomes are known
-  abbrev Ended : Type 0
-  Ended = try-step-lts.After-ended2 (claims t) (try-step-at t) try-step.Post
-
-  abbrev ended-made : Ended → Made
-  ended-made e = e .before .before .before .before .before .before .before
-
-  mul-outcomes-2 : try-step-lts.Need-mul-outcomes-2 (claims t) (try-step-at t) try-step.Post
-  mul-outcomes-2 c = record { fits = omega (arith, own-there (tried (found (ended-made c)))) }
-
-  set-outcomes-2 : try-step-lts.Need-array-set-from-outcomes-2 (claims t) (try-step-at t) try-step.Post
-  set-outcomes-2 c = own-there (tried (found (ended-made c)))
-
-  -- they are those of the four threads after the step
-  two-outcomes : (e : Ended) →
-      set (set (e .before .before .outcomes-of2 .result) (found (ended-made e) .other-or-own .result) (ended-made e .step-both .result .other .outcome)) (start (ended-made e) .args .x) (ended-made e .step-both .result .own .outcome)
-      ≡ outcomesIn (after (ended-made e))
-  two-outcomes e =
-      let m = ended-made e in
-      let both = m .step-both .result in
-      ap (λ (l : List Outcome). set (set l (found m .other-or-own .result) (both .other .outcome)) (start m .args .x) (both .own .outcome)) (e .before .before .outcomes-of2 .ensures)
-      ∙ sym (outcomes-both (start m .args .x) (found m .other-or-own .result) (both .own) (both .other) (start m .args .t1))
-
-  two-place-requires : try-step-lts.Need-place-requires-2 (claims t) (try-step-at t) try-step.Post
-  two-place-requires c κs =
+  place-with-requires : try-step-lts.Need-place-with-requires (claims t) (try-step-at t) try-step.Post
+  place-with-requires c κs =
       let m = ended-made c in
-      subst (Coded (start m .args .t1 .n)) (sym (two-outcomes c)) (coded-after (start m .pre .1 .0) (below (start m)) (tried (found m) .before .before .try-next .ensures) (tried (found m) .before .before .try-next .kept .1 .1 .1 .0) (stepped-two m))
+      ((own-there (turn m), other-there (found m)), coded-ended (start m .pre .1 .0 .front .front) (start m .args .x) (below (start m)) _ _ (found m .before .other-number .ensures) (found m .other-or-own .ensures) (leaves c))
 
-  -- its place is known
-  abbrev TwoLast : Type 0
-  TwoLast = try-step-lts.After-place2 (claims t) (try-step-at t) try-step.Post
+  -- it was the last one
+  ended-mul : try-step-lts.Need-mul-counts (claims t) (try-step-at t) try-step.Post
+  ended-mul c = record { fits = omega (arith, c .before .place-with .ensures .1) }
 
-  abbrev two-made : TwoLast → Made
-  two-made l = ended-made (l .before)
+  ended-read : try-step-lts.Need-slice-read-counts (claims t) (try-step-at t) try-step.Post
+  ended-read c = let d = c .before .before in let m = placed-made d in omega (arith, d .place-with .ensures .1, turn m .before .before .try-next .kept .1 .1 .1 .0, start m .pre .1 .0 .long)
 
-  two-place : (l : TwoLast) → l .place2 .result ≡ placeFrom (codeAt (outcomesIn (after (two-made l)))) (start (two-made l) .args .t1 .n) 0
-  two-place l = l .place2 .ensures .0 ∙ ap (λ (o : List Outcome). placeFrom (codeAt o) (start (two-made l) .args .t1 .n) 0) (two-outcomes (l .before))
+  ended-add : try-step-lts.Need-add-counts (claims t) (try-step-at t) try-step.Post
+  ended-add c = let d = c .before .before in let m = placed-made d in record { fits = one-fits (start m .pre .1 .0) (below (start m)) (turn m .before .before .try-next .ensures) (turn m .before .before .try-next .kept .1 .1 .1 .0) (c .before .if2 .taken) _ (ended-leads d) (d .place-with .ensures .1) }
 
-  two-mul : try-step-lts.Need-mul-counts-2 (claims t) (try-step-at t) try-step.Post
-  two-mul c = record { fits = omega (arith, c .place2 .ensures .1) }
+  ended-write : try-step-lts.Need-slice-write-counts (claims t) (try-step-at t) try-step.Post
+  ended-write c = let d = c .before .before in let m = placed-made d in omega (arith, d .place-with .ensures .1, turn m .before .before .try-next .kept .1 .1 .1 .0, start m .pre .1 .0 .long)
 
-  two-read : try-step-lts.Need-slice-read-counts-2 (claims t) (try-step-at t) try-step.Post
-  two-read c = let m = two-made (c .before) in omega (arith, c .before .place2 .ensures .1, tried (found m) .before .before .try-next .kept .1 .1 .1 .0, start m .pre .1 .0 .long)
+  ended-length : try-step-lts.Need-same-length (claims t) (try-step-at t) try-step.Post
+  ended-length c = let m = placed-made (c .before .before) in simp length-set (turn m .before .before .try-next .kept .1 .1 .1 .0)
 
-  two-add : try-step-lts.Need-add-counts-2 (claims t) (try-step-at t) try-step.Post
-  two-add c =
-      let l = c .before in
-      let m = two-made l in
-      record { fits = one-fits (start m .pre .1 .0) (below (start m)) (tried (found m) .before .before .try-next .ensures) (tried (found m) .before .before .try-next .kept .1 .1 .1 .0) (stepped-two m) (l .before .before .before .before .if3 .taken) _ (two-place l) (l .place2 .ensures .1) }
-
-  two-write : try-step-lts.Need-slice-write-counts-2 (claims t) (try-step-at t) try-step.Post
-  two-write c = let m = two-made (c .before) in omega (arith, c .before .place2 .ensures .1, tried (found m) .before .before .try-next .kept .1 .1 .1 .0, start m .pre .1 .0 .long)
-
-  two-length : try-step-lts.Need-same-length-3 (claims t) (try-step-at t) try-step.Post
-  two-length c = let m = two-made (c .before) in simp length-set (tried (found m) .before .before .try-next .kept .1 .1 .1 .0)
-
-  two-returns : try-step-lts.Need-returns-3 (claims t) (try-step-at t) try-step.Post
-  two-returns c =
-      let l = c .before in
-      let m = two-made l in
-      counted-last (start m .pre .1 .0) (below (start m)) (tried (found m) .before .before .try-next .ensures) (tried (found m) .before .before .try-next .kept .1 .1 .1 .0) (stepped-two m) (l .before .before .before .before .if3 .taken) _ (two-place l) (l .place2 .ensures .1)
+  ended-returns : try-step-lts.Need-returns (claims t) (try-step-at t) try-step.Post
+  ended-returns c = let d = c .before .before in let m = placed-made d in counted-last (start m .pre .1 .0) (below (start m)) (turn m .before .before .try-next .ensures) (turn m .before .before .try-next .kept .1 .1 .1 .0) (c .before .if2 .taken) _ (ended-leads d) (d .place-with .ensures .1)
 
   -- or steps are left
-  abbrev TwoOn : Type 0
-  TwoOn = try-step-lts.Else3 (claims t) (try-step-at t) try-step.Post
-
-  abbrev on-made : TwoOn → Made
-  on-made e = e .before .before .before .before
-
   mul-theirs : try-step-lts.Need-mul-theirs (claims t) (try-step-at t) try-step.Post
-  mul-theirs c = record { fits = omega (arith, other-there (found (on-made c))) }
+  mul-theirs c = record { fits = omega (arith, other-there (found (placed-made (c .before)))) }
 
   set-theirs : try-step-lts.Need-element-set-from-theirs (claims t) (try-step-at t) try-step.Post
-  set-theirs c = other-there (found (on-made c))
+  set-theirs c = other-there (found (placed-made (c .before)))
 
   mul-mine : try-step-lts.Need-mul-mine (claims t) (try-step-at t) try-step.Post
-  mul-mine c = record { fits = omega (arith, own-there (tried (found (on-made c)))) }
+  mul-mine c = record { fits = omega (arith, own-there (turn (placed-made (c .before)))) }
 
   set-mine : try-step-lts.Need-element-set-from-mine (claims t) (try-step-at t) try-step.Post
-  set-mine c = own-there (tried (found (on-made c)))
+  set-mine c = own-there (turn (placed-made (c .before)))
 
-  two-left : try-step-lts.Need-sub-try-next-2 (claims t) (try-step-at t) try-step.Post
-  two-left c = omega (arith, start (on-made c) .pre .1 .0 .some)
+  cast-place : try-step-lts.Need-cast-next (claims t) (try-step-at t) try-step.Post
+  cast-place c = omega (arith, c .before .place-with .ensures .1)
 
-  two-on-requires : try-step-lts.Need-try-next-requires-3 (claims t) (try-step-at t) try-step.Post
-  two-on-requires c κs =
-      let m = on-made (c .before) in
-      let s = start m in
-      (omega (arith, s .pre .0, below s, s .pre .1 .0 .front .few, s .pre .1 .0 .front .size, s .pre .1 .0 .some), trying-on (start m .pre .1 .0) (below (start m)) (tried (found m) .before .before .try-next .ensures) (tried (found m) .before .before .try-next .kept .1 .1 .1 .0) (stepped-two m) (c .before .if3 .left))
+  ended-left : try-step-lts.Need-sub-try-next (claims t) (try-step-at t) try-step.Post
+  ended-left c = let m = placed-made (c .before) in omega (arith, start m .pre .1 .0 .some)
 
-  two-length-on : try-step-lts.Need-same-length-4 (claims t) (try-step-at t) try-step.Post
-  two-length-on c =
-      let m = on-made (c .before .before .before .before) in
-      c .before .before .try-next3 .kept .1 .1 .1 .0 ∙ tried (found m) .before .before .try-next .kept .1 .1 .1 .0
+  ended-on-requires : try-step-lts.Need-try-next-requires-2 (claims t) (try-step-at t) try-step.Post
+  ended-on-requires c κs =
+      let d = c .before .before in
+      let m = placed-made d in
+      (omega (arith, start m .pre .0, below (start m), start m .pre .1 .0 .front .front .few, start m .pre .1 .0 .front .front .size, start m .pre .1 .0 .some), trying-on (start m .pre .1 .0) (below (start m)) (turn m .before .before .try-next .ensures) (turn m .before .before .try-next .kept .1 .1 .1 .0) (c .before .if2 .left) (ended-to d))
 
-  two-returns-on : try-step-lts.Need-returns-4 (claims t) (try-step-at t) try-step.Post
-  two-returns-on c =
+  ended-on-length : try-step-lts.Need-same-length-2 (claims t) (try-step-at t) try-step.Post
+  ended-on-length c = let m = placed-made (c .before .before .before .before .before) in c .before .before .try-next2 .kept .1 .1 .1 .0 ∙ turn m .before .before .try-next .kept .1 .1 .1 .0
+
+  ended-on-returns : try-step-lts.Need-returns-2 (claims t) (try-step-at t) try-step.Post
+  ended-on-returns c =
       let e = c .before .before .before .before in
-      let m = on-made e in
-      counted-on (start m .pre .1 .0) (below (start m)) (tried (found m) .before .before .try-next .ensures) (tried (found m) .before .before .try-next .kept .1 .1 .1 .0) (stepped-two m) (e .if3 .left) (c .before .before .try-next3 .ensures)
+      let m = placed-made (e .before) in
+      counted-on (start m .pre .1 .0) (below (start m)) (turn m .before .before .try-next .ensures) (turn m .before .before .try-next .kept .1 .1 .1 .0) (e .if2 .left) (ended-to (e .before)) (c .before .before .try-next2 .ensures)
+
+  -- ---- it ends nothing
+  -- it was the last one
+  goes-cast : try-step-lts.Need-cast-counts (claims t) (try-step-at t) try-step.Post
+  goes-cast c = let m = goes-made (c .before) in omega (arith, place-in-counts (start m .pre .1 .0 .front))
+
+  goes-mul : try-step-lts.Need-mul-counts-2 (claims t) (try-step-at t) try-step.Post
+  goes-mul c = let m = goes-made (c .before) in record { fits = omega (arith, place-in-counts (start m .pre .1 .0 .front)) }
+
+  goes-read : try-step-lts.Need-slice-read-counts-2 (claims t) (try-step-at t) try-step.Post
+  goes-read c = let m = goes-made (c .before .before) in omega (arith, place-in-counts (start m .pre .1 .0 .front), turn m .before .before .try-next .kept .1 .1 .1 .0, start m .pre .1 .0 .long)
+
+  goes-add : try-step-lts.Need-add-counts-2 (claims t) (try-step-at t) try-step.Post
+  goes-add c =
+      let g = c .before .before in
+      let m = goes-made g in
+      record { fits = one-fits (start m .pre .1 .0) (below (start m)) (turn m .before .before .try-next .ensures) (turn m .before .before .try-next .kept .1 .1 .1 .0) (c .before .if3 .taken) _ (goes-leads g) (place-in-counts (start m .pre .1 .0 .front)) }
+
+  goes-write : try-step-lts.Need-slice-write-counts-2 (claims t) (try-step-at t) try-step.Post
+  goes-write c = let m = goes-made (c .before .before) in omega (arith, place-in-counts (start m .pre .1 .0 .front), turn m .before .before .try-next .kept .1 .1 .1 .0, start m .pre .1 .0 .long)
+
+  goes-length : try-step-lts.Need-same-length-3 (claims t) (try-step-at t) try-step.Post
+  goes-length c = let m = goes-made (c .before .before) in simp length-set (turn m .before .before .try-next .kept .1 .1 .1 .0)
+
+  goes-returns : try-step-lts.Need-returns-3 (claims t) (try-step-at t) try-step.Post
+  goes-returns c =
+      let g = c .before .before in
+      let m = goes-made g in
+      counted-last (start m .pre .1 .0) (below (start m)) (turn m .before .before .try-next .ensures) (turn m .before .before .try-next .kept .1 .1 .1 .0) (c .before .if3 .taken) _ (goes-leads g) (place-in-counts (start m .pre .1 .0 .front))
+
+  -- it changes nothing
+  abbrev Stays : Type 0
+  Stays = try-step-lts.Then4 (claims t) (try-step-at t) try-step.Post
+
+  abbrev stays-on : Stays → GoesOn
+  stays-on e = e .before .before .before
+
+  same-to : (e : Stays) → let m = goes-made (stays-on e) in SteppedTo (start m .args .t1) (start m .args .x) (start m .args .t1)
+  same-to e u W =
+      let g = stays-on e in
+      let m = goes-made g in
+      whole-same (W .front) (start m .args .x) (below (start m)) _ _ (found m .before .other-number .ensures) (found m .other-or-own .ensures) _ (leaves-changed _ _ _ (m .change-of .result) (m .change-of .ensures) (goes g)) (W .place)
+      (leaves-same _ _ _ (m .change-of .result) (m .change-of .ensures) (goes g) (sym (e .before .changes-nothing .ensures) ∙ e .if4 .taken))
+
+  same-left : try-step-lts.Need-sub-try-next-2 (claims t) (try-step-at t) try-step.Post
+  same-left c = let m = goes-made (stays-on c) in omega (arith, start m .pre .1 .0 .some)
+
+  same-on-requires : try-step-lts.Need-try-next-requires-3 (claims t) (try-step-at t) try-step.Post
+  same-on-requires c κs =
+      let e = c .before in
+      let m = goes-made (stays-on e) in
+      (omega (arith, start m .pre .0, below (start m), start m .pre .1 .0 .front .front .few, start m .pre .1 .0 .front .front .size, start m .pre .1 .0 .some), trying-on (start m .pre .1 .0) (below (start m)) (turn m .before .before .try-next .ensures) (turn m .before .before .try-next .kept .1 .1 .1 .0) (e .before .before .if3 .left) (same-to e))
+
+  same-on-length : try-step-lts.Need-same-length-4 (claims t) (try-step-at t) try-step.Post
+  same-on-length c = let m = goes-made (stays-on (c .before .before .before .before)) in c .before .before .try-next3 .kept .1 .1 .1 .0 ∙ turn m .before .before .try-next .kept .1 .1 .1 .0
+
+  same-on-returns : try-step-lts.Need-returns-4 (claims t) (try-step-at t) try-step.Post
+  same-on-returns c =
+      let e = c .before .before .before .before in
+      let m = goes-made (stays-on e) in
+      counted-on (start m .pre .1 .0) (below (start m)) (turn m .before .before .try-next .ensures) (turn m .before .before .try-next .kept .1 .1 .1 .0) (e .before .before .if3 .left) (same-to e) (c .before .before .try-next3 .ensures)
+
+  -- it sets some fields of both
+  abbrev Changed : Type 0
+  Changed = try-step-lts.After-change-own (claims t) (try-step-at t) try-step.Post
+
+  abbrev changed-on : Changed → GoesOn
+  changed-on d = d .before .before .before .before .before
+
+  changed-to : (d : Changed) → let m = goes-made (changed-on d) in SteppedTo (start m .args .t1) (start m .args .x)
+      (putBoth (start m .args .x) (d .change-own .result) (found m .other-or-own .result) (d .before .change-other .result) (start m .args .t1 .place) (start m .args .t1))
+  changed-to d u W =
+      let g = changed-on d in
+      let m = goes-made g in
+      whole-changed (W .front) (start m .args .x) (below (start m)) _ _ (found m .before .other-number .ensures) (found m .other-or-own .ensures) _ (leaves-changed _ _ _ (m .change-of .result) (m .change-of .ensures) (goes g)) (W .place) (d .change-own .ensures) (d .before .change-other .ensures)
+
+  mul-next : try-step-lts.Need-mul-next (claims t) (try-step-at t) try-step.Post
+  mul-next c = record { fits = omega (arith, other-there (found (goes-made (c .before .before .before .before)))) }
+
+  set-other : try-step-lts.Need-element-set-from-next (claims t) (try-step-at t) try-step.Post
+  set-other c = other-there (found (goes-made (c .before .before .before .before)))
+
+  mul-next-own : try-step-lts.Need-mul-t25 (claims t) (try-step-at t) try-step.Post
+  mul-next-own c = record { fits = omega (arith, own-there (turn (goes-made (changed-on c)))) }
+
+  set-own : try-step-lts.Need-element-set-from-next-2 (claims t) (try-step-at t) try-step.Post
+  set-own c = own-there (turn (goes-made (changed-on c)))
+
+  changed-left : try-step-lts.Need-sub-try-next-3 (claims t) (try-step-at t) try-step.Post
+  changed-left c = let m = goes-made (changed-on c) in omega (arith, start m .pre .1 .0 .some)
+
+  changed-on-requires : try-step-lts.Need-try-next-requires-4 (claims t) (try-step-at t) try-step.Post
+  changed-on-requires c κs =
+      let d = c .before in
+      let m = goes-made (changed-on d) in
+      (omega (arith, start m .pre .0, below (start m), start m .pre .1 .0 .front .front .few, start m .pre .1 .0 .front .front .size, start m .pre .1 .0 .some), trying-on (start m .pre .1 .0) (below (start m)) (turn m .before .before .try-next .ensures) (turn m .before .before .try-next .kept .1 .1 .1 .0) (d .before .before .before .before .if3 .left) (changed-to d))
+
+  changed-on-length : try-step-lts.Need-same-length-5 (claims t) (try-step-at t) try-step.Post
+  changed-on-length c = let m = goes-made (changed-on (c .before .before .before .before)) in c .before .before .try-next4 .kept .1 .1 .1 .0 ∙ turn m .before .before .try-next .kept .1 .1 .1 .0
+
+  changed-on-returns : try-step-lts.Need-returns-5 (claims t) (try-step-at t) try-step.Post
+  changed-on-returns c =
+      let d = c .before .before .before .before in
+      let m = goes-made (changed-on d) in
+      counted-on (start m .pre .1 .0) (below (start m)) (turn m .before .before .try-next .ensures) (turn m .before .before .try-next .kept .1 .1 .1 .0) (d .before .before .before .before .if3 .left) (changed-to d) (c .before .before .try-next4 .ensures)
 
 pub +try-next+try-step-spec : {M : Type 1} → statement M
 +try-next+try-step-spec =
@@ -334,36 +371,44 @@ pub +try-next+try-step-spec : {M : Type 1} → statement M
     (λ c. search needs)
     (mul-other t)
     (other-copied t)
-    (step-both-requires t)
+    (change-of-requires t)
     (λ c κs. search needs)
-    (same-place-requires t)
-    (same-mul t)
-    (same-read t)
-    (same-add t)
-    (same-write t)
-    (same-length t)
-    (same-returns t)
-    (same-left t)
-    (same-on-requires t)
-    (same-length-on t)
-    (same-returns-on t)
-    (λ c κs. search needs)
-    (mul-outcomes t)
-    (set-outcomes t)
-    (mul-outcomes-2 t)
-    (set-outcomes-2 t)
-    (two-place-requires t)
-    (two-mul t)
-    (two-read t)
-    (two-add t)
-    (two-write t)
-    (two-length t)
-    (two-returns t)
+    (end-threads-requires t)
+    (place-with-requires t)
+    (ended-mul t)
+    (ended-read t)
+    (ended-add t)
+    (ended-write t)
+    (ended-length t)
+    (ended-returns t)
     (mul-theirs t)
     (set-theirs t)
     (mul-mine t)
     (set-mine t)
-    (two-left t)
-    (two-on-requires t)
-    (two-length-on t)
-    (two-returns-on t)
+    (cast-place t)
+    (ended-left t)
+    (ended-on-requires t)
+    (ended-on-length t)
+    (ended-on-returns t)
+    (goes-cast t)
+    (goes-mul t)
+    (goes-read t)
+    (goes-add t)
+    (goes-write t)
+    (goes-length t)
+    (goes-returns t)
+    (λ c κs. search needs)
+    (same-left t)
+    (same-on-requires t)
+    (same-on-length t)
+    (same-on-returns t)
+    (λ c κs. search needs)
+    (mul-next t)
+    (set-other t)
+    (λ c κs. search needs)
+    (mul-next-own t)
+    (set-own t)
+    (changed-left t)
+    (changed-on-requires t)
+    (changed-on-length t)
+    (changed-on-returns t)
