@@ -22,6 +22,22 @@ fn digit(code: i32) -> usize
     }
 }
 
+// The code that a digit below 8 stands for.
+pub fn code_of(digit: usize) -> i32
+    ensures { λ r. ⌜ (digit < 8 → digitOf r ≡ digit) ⌝ }
+{
+    match digit {
+        0 => 0,
+        1 => 1,
+        2 => 2,
+        3 => -2,
+        4 => -3,
+        5 => -4,
+        6 => -5,
+        _ => -6,
+    }
+}
+
 // The codes of the first n of four outcomes, read to base 8, the first the lowest digit.
 pub fn place(n: u8, outcomes: [Outcome; 4]) -> usize
     requires { ⌜ Coded n outcomes ⌝ }

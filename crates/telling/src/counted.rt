@@ -3,6 +3,7 @@ ghost use Prim.Native.Nat.{_≤_};
 use crate::lines::put_line;
 use counts::Counted;
 use counts::count_endings;
+use digits::code_of;
 use model::Answer;
 use model::Table;
 use numbers::lesser;
@@ -18,20 +19,6 @@ const PLACES: usize = 4200;
 
 // What every place holds before a count. It is not 0, so that a place which no count was put into shows.
 const MARK: u32 = 7;
-
-// The code that a digit of a place stands for.
-fn code_of(digit: usize) -> i32 {
-    match digit {
-        0 => 0,
-        1 => 1,
-        2 => 2,
-        3 => -2,
-        4 => -3,
-        5 => -4,
-        6 => -5,
-        _ => -6,
-    }
-}
 
 // The line of a place that has a count: the codes of n threads, thread 0 in the lowest digit to base 8, and the count.
 fn put_ending(out: &mut [u8], start: usize, n: u8, place: usize, count: u32) -> usize {

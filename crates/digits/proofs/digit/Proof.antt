@@ -11,13 +11,12 @@ use Rattle.laws.proofs.Lists.{cond-false}
 use Rattle.model.specs.Counting.{standing, digitOf}
 use Rattle.digits.proofs.digit.Statement.{statement}
 use Rattle.digits.proofs.digit.Tie as tie
-use Rattle.digits.proofs.digit.Reads as reads
-use Rattle.digits.proofs.digit.Lts as lts
 
 -- another code has other bits
 differs : (d c : ℤ) (b : ℕ) → ofZ w32 d ≡ b → (ofZ w32 c ≡ b → ⊥) → sameCode d c ≡ false
 differs d c b is n = code-differs d c (λ e. n (ap (ofZ w32) (sym e) ∙ is))
 
+-- ---- one for each code
 returns : tie.Need-returns
 unfolding digitOf standing
 returns c = sym (ap digitOf (sym (toZ-ofZ (c .before .fits .code)) ∙ ap (toZ w32) (c .match .keys1)))
@@ -50,6 +49,7 @@ returns-8 : tie.Need-returns-8
 unfolding digitOf standing
 returns-8 c = sym (ap digitOf (sym (toZ-ofZ (c .before .fits .code)) ∙ ap (toZ w32) (c .match .keys8)))
 
+-- no code is another number
 returns-9 : tie.Need-returns-9
 unfolding digitOf standing
 returns-9 c =
