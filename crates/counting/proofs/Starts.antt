@@ -1,11 +1,10 @@
 -- From counts that are all 0: there is room for every list, and in the end each place has its count.
-use mathlib.Core.Path.{_≡_, refl, sym, ap, _∙_, subst}
-use mathlib.Core.Bool.{Bool}
+use mathlib.Core.Path.{_≡_, sym, ap, _∙_}
 use mathlib.Core.List.{List}
-use Prim.Native.Nat.{ℕ, zero, suc, _+_, _-_, _^_, _≤_, _<_}
+use Prim.Native.Nat.{ℕ, suc, _+_, _-_, _^_, _≤_, _<_}
 use native.Mathlib.Omega.{arith}
 use native.Mathlib.Nat.{pow-le-pow-left, pow-le-pow-right}
-use lib.ListN.{length, getD, set, replicate, length-replicate, length-set, getD-replicate}
+use lib.ListN.{length, getD, set, length-replicate, length-set, getD-replicate}
 use lib.Seq.{take-length}
 use lib.Dec.{eqb, lit≤}
 use Rattle.model.specs.declared.Table.{Table}

@@ -1,7 +1,7 @@
 -- Places, digit by digit from the last thread.
 use mathlib.Core.Path.{_≡_, sym, ap, _∙_, subst}
 use mathlib.Core.List.{List}
-use Prim.Native.Nat.{ℕ, zero, suc, _+_, _-_, _*_, _≤_, _<_}
+use Prim.Native.Nat.{ℕ, suc, _+_, _-_, _*_, _≤_, _<_}
 use native.Mathlib.Omega.{arith}
 use Rattle.model.specs.declared.Outcome.{Outcome}
 use Rattle.model.specs.Counting.{digitOf, placeFrom, countPlaces}

@@ -1,8 +1,8 @@
 -- The first four threads of a table of at most four: a step of two of them is the step of the table.
 use mathlib.Core.Path.{_≡_, refl, sym, ap, _∙_, subst}
-use mathlib.Core.Bool.{Bool, true, false}
+use mathlib.Core.Bool.{true}
 use mathlib.Core.List.{List, [], _∷_, map}
-use Prim.Native.Nat.{ℕ, zero, suc, _+_, _*_, _≤_, _<_}
+use Prim.Native.Nat.{ℕ, zero, suc, _*_, _≤_, _<_}
 use native.Mathlib.Omega.{arith}
 use lib.ListN.{length, getD, set, take, replicate, length-replicate, List·getD-map}
 use lib.Seq.{take-all, length-take-le, getD-take, take-set-lt, set-getD, map-set-same}
@@ -24,7 +24,7 @@ use Rattle.model.specs.Promise.{state}
 use Rattle.model.proofs.Laws.{by}
 use Rattle.model.proofs.Tested.{well-formed-told}
 use Rattle.laws.proofs.Lists.{cond-false}
-use Rattle.formed.proofs.Formed.{Formed, formed-grouped}
+use Rattle.formed.proofs.Formed.{Formed}
 use Rattle.formed.proofs.Facts.{queue-small}
 use Rattle.actions.specs.declared.Change.{Change}
 use Rattle.actions.specs.Acted.{ownChanged, otherChanged, Acted}

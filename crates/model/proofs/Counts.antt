@@ -1,11 +1,8 @@
 -- Document 02, #105: how many lists of steps end how. Digits and places; all lists; how the lists of one or two steps end; by which number counting is refused.
 use mathlib.Core.Path.{_≡_, refl}
-use mathlib.Core.Bool.{false}
-use mathlib.Core.List.{List, [], _∷_, map}
+use mathlib.Core.List.{[], _∷_, map}
 use Prim.Native.Nat.{ℕ}
 use lib.IntN.{ℤ, pos, negℤ}
-use Rattle.model.specs.declared.Receive.the-variants.{Absent}
-use Rattle.model.specs.declared.Thread.{Thread}
 use Rattle.model.specs.declared.Table.{Table}
 use Rattle.model.specs.Codes.{codeOnly}
 use Rattle.model.specs.Threads.{newTable, edit, ended, entering}
@@ -13,7 +10,7 @@ use Rattle.model.specs.Phases.{sleep}
 use Rattle.model.specs.Calls.{begin}
 use Rattle.model.specs.Counting.{digitOf, stepLists, lengthUsed, placeOf, places, countOf}
 use Rattle.model.specs.Refusals.{countRefusal}
-use Rattle.model.specs.Examples.{firstState, sendTo, receiveOnly, openFor, worked}
+use Rattle.model.specs.Examples.{firstState, receiveOnly, openFor, worked}
 use Rattle.model.proofs.Loadings.{afterLoadings}
 
 -- ---- "codes are digits 0 to 7 in document 01's order"

@@ -2,7 +2,6 @@
 use mathlib.Core.Path.{_≡_, sym, ap, _∙_, subst}
 use mathlib.Core.List.{List}
 use Prim.Native.Nat.{ℕ, _<_}
-use lib.ListN.{length}
 use Rattle.model.specs.declared.Table.{Table}
 use Rattle.model.specs.Threads.{at}
 use Rattle.model.specs.WellFormed.{Shaped, WellFormed}
