@@ -3,7 +3,8 @@ ghost use Prim.Native.Nat.{_<_};
 ghost use Rattle.counting.specs.Trying.{Trying, Counted, Countable, CountedAll};
 use few::Few;
 
-// The lists that start with a step of a later thread than x, and then those that start with one of x.
+// The lists that start with a step of a later thread than x, and then those that start with one of x. A step that ends nothing leads to the same place, and one that changes
+// nothing goes on from the same table: it is a choice like any other.
 fn try_step(table: Few, x: u8, left: u8, counts: &mut [u32])
     requires { ⌜ Trying table x left (now counts) ⌝ }
     requires { ⌜ x < table .n ⌝ }

@@ -42,7 +42,7 @@ pub fn few_of(table: Table) -> Few
 }
 
 // Their outcomes.
-pub fn outcomes_of(few: Few) -> [Outcome; 4]
+fn outcomes_of(few: Few) -> [Outcome; 4]
     ensures { λ r. ⌜ r ≡ outcomesIn few ⌝ }
 {
     let first = few.threads[0];
