@@ -9,24 +9,6 @@ typedef struct {
     Thread th[T];
 } Few;
 
-static void finish(Thread *x, int code, unsigned source, unsigned count)
-{
-    x->flags = 0;
-    x->code = (int8_t)code;
-    x->source = source;
-    x->count = count;
-}
-
-static void leave_queue(Thread *r, unsigned s)
-{
-    unsigned i = 0;
-    while (r->queue[i] != s)
-        i++;
-    r->qlen--;
-    for (; i < r->qlen; i++)
-        r->queue[i] = r->queue[i + 1];
-}
-
 static void give_up(Few *tab, Thread *x, unsigned t, int code)
 {
     leave_queue(&tab->th[x->target], t);
@@ -90,16 +72,17 @@ static void look(Few *tab, Thread *x, unsigned t)
         return;
     }
     s = found(tab, x, t);
-    if (s != NONE) {
+    /* receive codes 1 to 14 are limits: once the time is over no sender counts */
+    if (x->left == 0 && (s == NONE || (x->rcode >= 1 && x->rcode <= 14))) {
+        finish(x, RTIME, NONE, 0);
+        x->phase = IDLE;
+    } else if (s != NONE) {
         Thread *r = &tab->th[s];
         if ((r->flags & F_POLL) && r->owner == NONE) {
             r->owner = t;
             x->woken = s;
             x->phase = WAKE;
         }
-    } else if (x->left == 0) {
-        finish(x, RTIME, NONE, 0);
-        x->phase = IDLE;
     }
 }
 
