@@ -12,13 +12,13 @@ use borrow.Author.Tests.{ltb-false, eqb-true, eqb-false}
 use Rattle.model.specs.declared.SendPart.{SendPart}
 use Rattle.model.specs.declared.Receive.{Receive}
 use Rattle.model.specs.declared.Receive.the-variants.{Absent, Open, Closed}
-use Rattle.model.specs.Lists.{upTo}
+use Rattle.model.specs.Lists.{upTo, sameNumbers}
 use Rattle.model.specs.Threads.{noOperation}
 use Rattle.model.specs.Bondtrace.{ascii}
 use Rattle.model.specs.Refusals.{unless, firstRefusal}
 use Rattle.model.proofs.Laws.{by}
 use Rattle.laws.proofs.Lists.{zero-or-not}
-use Rattle.language.specs.Words.{words, sameWord, isNumber, value}
+use Rattle.language.specs.Words.{words, isNumber, value}
 use Rattle.language.specs.Grammar.{largest, takesSign, takesChoice}
 use Rattle.language.specs.Commands.{noPart, notNumber, tooMuch, isNegative, digitsOf, wrongDigits, wrongNumber, kept, Progress, stopped, reached, readNumber, readNumbers, Spelled, misspelled, spelled, startsWith, closed, readOpen, readClosed, readWait, readReceive, withWord, readWords, emptySend, readSend, readParts}
 use Rattle.scanning.specs.Scanned.{between, Found}
@@ -161,22 +161,22 @@ low-second : (after : List ℕ) (count : ℕ) → TwoBytes (take count after) �
 low-second after count b = low-same after _ count 1 (b .are) (omega arith) (b .small-too)
 
 -- ---- the first word
-module _ (line : List ℕ) (at start end : ℕ) (f : Found line at start end) (name : List ℕ) (some : sameWord [] name ≡ false) where
+module _ (line : List ℕ) (at start end : ℕ) (f : Found line at start end) (name : List ℕ) (some : sameNumbers [] name ≡ false) where
   -- a word that is found is not empty
-  word-there : sameWord (between start end line) name ≡ true → start ≡ end → ⊥
+  word-there : sameNumbers (between start end line) name ≡ true → start ≡ end → ⊥
   word-there e s = let clash : true ≡ false = sym e ∙ rw (between-none line start end s) some in let z : _≡_ {A = ℕ} 0 1 = cc in omega arith
 
   -- it is this one
-  pub starts-yes : sameWord (between start end line) name ≡ true → startsWith name (words (drop at line)) ≡ true
+  pub starts-yes : sameNumbers (between start end line) name ≡ true → startsWith name (words (drop at line)) ≡ true
   unfolding startsWith
   starts-yes e = rw (found-word line at start end f (word-there e)) e
 
   -- then the others stand behind it
-  pub starts-behind : sameWord (between start end line) name ≡ true → drop 1 (words (drop at line)) ≡ words (drop end line)
+  pub starts-behind : sameNumbers (between start end line) name ≡ true → drop 1 (words (drop at line)) ≡ words (drop end line)
   starts-behind e = rw (found-word line at start end f (word-there e))
 
   -- it is another, or none
-  pub starts-no : sameWord (between start end line) name ≡ false → startsWith name (words (drop at line)) ≡ false
+  pub starts-no : sameNumbers (between start end line) name ≡ false → startsWith name (words (drop at line)) ≡ false
   unfolding startsWith
   starts-no e = by (eqb start end) (λ s. rw (found-none line at start end f (eqb-true _ _ s))) (λ s. rw (found-word line at start end f (eqb-false _ _ s)) e)
 
@@ -216,12 +216,12 @@ module _ (line : List ℕ) (send : SendPart) (at start end : ℕ) (f : Found lin
 
   module _ (d : start ≡ end → ⊥) where
     -- the word `receive`
-    pub receive-word : sameWord (between start end line) (ascii "receive") ≡ true → readWait send (words (drop end line)) ≡ readReceive send (words (drop at line))
+    pub receive-word : sameNumbers (between start end line) (ascii "receive") ≡ true → readWait send (words (drop end line)) ≡ readReceive send (words (drop at line))
     unfolding readReceive
     receive-word e = rw (found-word line at start end f d, e)
 
     -- another
-    pub receive-other : sameWord (between start end line) (ascii "receive") ≡ false → Spells line (readReceive send (words (drop at line))) (misspelling noPart start end)
+    pub receive-other : sameNumbers (between start end line) (ascii "receive") ≡ false → Spells line (readReceive send (words (drop at line))) (misspelling noPart start end)
     unfolding readReceive
     receive-other e = rw (found-word line at start end f d, e) (spells-wrong line noPart start end (record { ordered = f .ordered; within = f .within }) (omega arith))
 
@@ -234,11 +234,11 @@ module _ (line : List ℕ) (send : SendPart) (at start end : ℕ) (f : Found lin
 
   module _ (d : start ≡ end → ⊥) where
     -- the word `receive`
-    pub words-receive : sameWord (between start end line) (ascii "receive") ≡ true → readReceive send (words (drop at line)) ≡ readWords send (words (drop at line))
+    pub words-receive : sameNumbers (between start end line) (ascii "receive") ≡ true → readReceive send (words (drop at line)) ≡ readWords send (words (drop at line))
     unfolding readWords
     words-receive e = rw (found-word line at start end f d, e)
 
-    module _ (e : sameWord (between start end line) (ascii "receive") ≡ false) (amount : Amount) (m : Measured (code "w") (digitsOf (code "w") (between start end line)) amount) where
+    module _ (e : sameNumbers (between start end line) (ascii "receive") ≡ false) (amount : Amount) (m : Measured (code "w") (digitsOf (code "w") (between start end line)) amount) where
       -- what is no word of a message
       pub words-wrong : (amount .reason ≡ 0 → ⊥) → Spells line (readWords send (words (drop at line))) (misspelling (amount .reason) start end)
       unfolding readWords wrongNumber

@@ -9,7 +9,7 @@ use Rattle.language.specs.RecordText as RecordText
 use Rattle.language.specs.ScheduleText as ScheduleText
 
 unfoldable pub computing : ℕ
-unfolding ofModel Words.joined Words.lines Words.withoutReturn Words.isBlank Words.startsWord Words.words Words.sameWord Words.hasComma Words.pieces Words.isDigit Words.allDigits Words.isNumber
+unfolding ofModel Words.joined Words.lines Words.withoutReturn Words.isBlank Words.startsWord Words.words Words.hasComma Words.pieces Words.isDigit Words.allDigits Words.isNumber
     Words.grown Words.value Runs.each Runs.lastLine Grammar.grammar Grammar.column Grammar.isName Grammar.findRow Grammar.untilBlank Grammar.numberLetters Grammar.restLetter Grammar.largest
     Grammar.least Grammar.takesSign Grammar.takesChoice Grammar.mostMore Commands.reasons Commands.reasonText Commands.isNegative Commands.choiceDigits Commands.digitsOf Commands.reasonFor Commands.wrongDigits Commands.wrongNumber Commands.kept Commands.readNumber
     Commands.readNumbers Commands.readMore Commands.withMember Commands.readMembers Commands.startsWith Commands.closed Commands.readOpen Commands.readClosed Commands.readOneOf

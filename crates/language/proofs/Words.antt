@@ -1,18 +1,17 @@
 -- Laws of lines, words and numbers: what a run of blanks, a word, a line and a digit make of the bytes behind them.
 use mathlib.Core.Path.{_≡_, refl, ap, _∙_}
 use mathlib.Core.Logic.{_≢_}
-use mathlib.Core.Bool.{Bool, true, false, not, _&&_}
+use mathlib.Core.Bool.{Bool, true, false, not}
 use mathlib.Core.List.{List, [], _∷_, _++_}
-use Prim.Native.Nat.{ℕ, suc, _+_, _-_, _*_, _≤_, min}
+use Prim.Native.Nat.{ℕ, _+_, _-_, _*_, _≤_, min}
 use native.Mathlib.Omega.{arith}
 use native.Mathlib.Nat.{min-eq-left}
 use lib.Dec.{eqb, leb}
-use lib.ListN.{length}
 use borrow.Author.Tests.{ne-eqb, not-true, leb-true, leb-false}
 use Rattle.model.specs.Schedule.{isEmpty}
 use Rattle.model.proofs.Laws.{by, and-left, and-right, and-made}
 use Rattle.language.specs.Runs.{each, solid, unbroken, lastLine}
-use Rattle.language.specs.Words.{joined, newline, lines, withoutReturn, isBlank, startsWord, words, sameWord, grown}
+use Rattle.language.specs.Words.{joined, newline, lines, withoutReturn, isBlank, startsWord, words, grown}
 
 -- ---- a test of every byte
 module _ (test : ℕ → Bool) where
@@ -111,25 +110,6 @@ unfolding withoutReturn
 return-cut [] = refl
 return-cut (first ∷ []) = return-next first 13 []
 return-cut (first ∷ next ∷ line) = return-next first next (line ++ (13 ∷ [])) ∙ ap (λ (l : List ℕ). first ∷ l) (return-cut (next ∷ line))
-
--- ---- two words compared
--- those of other lengths are not the same
-pub same-lengths : (v w : List ℕ) → length v ≢ length w → sameWord v w ≡ false
-unfolding sameWord
-same-lengths [] [] d = absurd (d refl)
-same-lengths [] (b ∷ w) d = refl
-same-lengths (a ∷ v) [] d = refl
-same-lengths (a ∷ v) (b ∷ w) d = by (eqb a b) (λ e. rw e (same-lengths v w (λ l. d (ap suc l)))) (λ e. rw e)
-
--- nothing is the same as nothing
-pub same-none : sameWord [] [] ≡ true
-unfolding sameWord
-same-none = refl
-
--- words with a first byte are the same where these are and the rest is
-pub same-first : (a b : ℕ) (v w : List ℕ) → sameWord (a ∷ v) (b ∷ w) ≡ (eqb a b && sameWord v w)
-unfolding sameWord
-same-first a b v w = refl
 
 -- ---- numbers
 -- more digits make no number smaller

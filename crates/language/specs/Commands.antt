@@ -9,12 +9,12 @@ use Rattle.model.specs.declared.SendPart.{SendPart}
 use Rattle.model.specs.declared.Receive.{Receive}
 use Rattle.model.specs.declared.Receive.the-variants.{Absent, Open, Closed, OneOf}
 use Rattle.model.specs.declared.Operation.{Operation}
-use Rattle.model.specs.Lists.{bit}
+use Rattle.model.specs.Lists.{bit, sameNumbers}
 use Rattle.model.specs.Operations.{member}
 use Rattle.model.specs.Threads.{noOperation}
 use Rattle.model.specs.Refusals.{Row, firstRefusal, unless}
 use Rattle.model.specs.Bondtrace.{ascii}
-use Rattle.language.specs.Words.{words, withoutReturn, sameWord, hasComma, pieces, isNumber, value}
+use Rattle.language.specs.Words.{words, withoutReturn, hasComma, pieces, isNumber, value}
 use Rattle.language.specs.Grammar.{rows, firstField, setRow, findRow, numberLetters, restLetter, largest, least, takesSign, takesChoice, mostMore}
 
 -- ---- reasons: why a line is no command
@@ -89,7 +89,7 @@ isNegative letter word = takesSign letter && eqb (getD word 0 0) (code "-")
 
 -- `yes` and `no` as digits; no other word has any there
 unfoldable pub choiceDigits : List ℕ → List ℕ
-choiceDigits word = cond (sameWord word (ascii "yes")) (ascii "1") (cond (sameWord word (ascii "no")) (ascii "0") [])
+choiceDigits word = cond (sameNumbers word (ascii "yes")) (ascii "1") (cond (sameNumbers word (ascii "no")) (ascii "0") [])
 
 -- the digits of a number
 unfoldable pub digitsOf : ℕ → List ℕ → List ℕ
@@ -160,7 +160,7 @@ pub data Spelled : Type 0 where
 -- the first word is this one
 unfoldable pub startsWith : List ℕ → List (List ℕ) → Bool
 startsWith name [] = false
-startsWith name (word ∷ left) = sameWord word name
+startsWith name (word ∷ left) = sameNumbers word name
 
 -- an operation whose receive part is read, where nothing is left of the line
 unfoldable pub closed : SendPart → (List ℕ → Receive) → Progress → Spelled
@@ -195,7 +195,7 @@ readWait send left =
 -- a receive part or none
 unfoldable pub readReceive : SendPart → List (List ℕ) → Spelled
 readReceive send [] = spelled (record { send = send; receive = Absent })
-readReceive send (word ∷ left) = cond (sameWord word (ascii "receive")) (readWait send left) (misspelled noPart word)
+readReceive send (word ∷ left) = cond (sameNumbers word (ascii "receive")) (readWait send left) (misspelled noPart word)
 
 -- "Words past the eighth are counted, to any number (300 words are refused 9 and do not wrap round), and not kept": counted to 255
 unfoldable pub withWord : ℕ → SendPart → SendPart
@@ -210,7 +210,7 @@ withWord word send = record {
 -- the words of a send part, and what stands behind them
 unfoldable pub readWords : SendPart → List (List ℕ) → Spelled
 readWords send [] = readReceive send []
-readWords send (word ∷ left) = cond (sameWord word (ascii "receive")) (readReceive send (word ∷ left))
+readWords send (word ∷ left) = cond (sameNumbers word (ascii "receive")) (readReceive send (word ∷ left))
     (unless (wrongNumber (code "w") word) (λ reason. misspelled reason word) (readWords (withWord (value word) send) left))
 
 -- a send part of no words yet, by its two numbers

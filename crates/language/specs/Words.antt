@@ -3,7 +3,6 @@ use mathlib.Core.Bool.{Bool, true, false, not, cond, _&&_, _||_}
 use mathlib.Core.List.{List, [], _∷_}
 use Prim.Native.Nat.{ℕ, _+_, _-_, _*_}
 use lib.Dec.{eqb, leb}
-use lib.ListN.{length}
 use Rattle.model.specs.Schedule.{isEmpty}
 
 -- a byte put in front of the first of some runs of bytes
@@ -42,13 +41,6 @@ words [] = []
 words (byte ∷ line) =
     let later = words line in
     cond (isBlank byte) later (cond (startsWord line) (joined byte later) ((byte ∷ []) ∷ later))
-
--- two words are the same
-unfoldable pub sameWord : List ℕ → List ℕ → Bool
-sameWord [] [] = true
-sameWord [] (b ∷ w) = false
-sameWord (a ∷ v) [] = false
-sameWord (a ∷ v) (b ∷ w) = eqb a b && sameWord v w
 
 -- ---- the pieces of a word
 -- what stands between them

@@ -2,16 +2,15 @@
 use mathlib.Core.Path.{_≡_, refl, ap, subst}
 use mathlib.Core.Bool.{true}
 use mathlib.Core.Option.{none, some}
-use mathlib.Core.List.{List, [], _∷_}
-use Prim.Native.Nat.{ℕ}
 use borrow.Author.Tests.{eq-eqb}
 use Rattle.model.specs.Answers.{Said, refused, replied}
 use Rattle.model.specs.Calls.{Call, beginVia, step, cancel, tick, load}
 use Rattle.model.specs.Codes.{View}
 use Rattle.model.specs.Atomic.{Machine, begins, cancels, ticks, rendezvous, aborts}
 use Rattle.model.specs.Linearization.{Entry, AtCall}
-use Rattle.model.proofs.Replay.{sameWords, sameView, replyNumber, answerTest}
+use Rattle.model.proofs.Replay.{sameView, replyNumber, answerTest}
 use Rattle.laws.proofs.Codes.{code-itself}
+use Rattle.laws.proofs.Same.{same-itself}
 use Rattle.model.proofs.Laws.{_and_, all-of-made}
 
 -- ---- answers
@@ -30,14 +29,8 @@ placed-tested tick (replied a) e p h = rw (h .event) (eq-eqb _ _ (ap replyNumber
 placed-tested (load rules) (replied a) e p h = rw h refl
 
 -- ---- views
--- words are the same as themselves
-words-themselves : (q : List ℕ) → sameWords q q ≡ true
-unfolding sameWords
-words-themselves [] = refl
-words-themselves (a ∷ q) = rw (eq-eqb a a refl) (words-themselves q)
-
 -- views that are equal pass the test
 pub view-tested : (v w : View) → v ≡ w → sameView v w ≡ true
 unfolding sameView
 view-tested v w e = subst (λ (u : View). sameView v u ≡ true) e (all-of-made _ (
-    code-itself (v .outcome .code) and eq-eqb (v .outcome .source) _ refl and eq-eqb (v .outcome .count) _ refl and words-themselves (v .words) and tt))
+    code-itself (v .outcome .code) and eq-eqb (v .outcome .source) _ refl and eq-eqb (v .outcome .count) _ refl and same-itself (v .words) and tt))

@@ -30,7 +30,7 @@ use Rattle.model.specs.Examples
 use Rattle.model.proofs.Replay
 
 unfoldable pub lists : ℕ
-unfolding Lists.implies Lists.allOf Lists.allBelow Lists.occurs Lists.without Lists.placeWhere Lists.upTo Lists.update Lists.concat
+unfolding Lists.implies Lists.allOf Lists.allBelow Lists.occurs Lists.sameNumbers Lists.without Lists.placeWhere Lists.upTo Lists.update Lists.concat
 lists = 0
 
 unfoldable pub shared : ℕ
@@ -95,7 +95,7 @@ unfolding Linearization.played Linearization.latest Linearization.pairs Lineariz
 traces = 0
 
 unfoldable pub replays : ℕ
-unfolding Replay.noneAcceptable Replay.abortTest Replay.canTest Replay.sameWords Replay.sameView Replay.agree
+unfolding Replay.noneAcceptable Replay.abortTest Replay.canTest Replay.sameView Replay.agree
 replays = 0
 
 unfoldable pub orders : ℕ

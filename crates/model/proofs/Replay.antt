@@ -7,7 +7,7 @@ use Prim.Native.Nat.{ℕ}
 use lib.Dec.{eqb, ltb}
 use lib.IntN.{ℤ}
 use Rattle.model.specs.Answers.{Reply, accepted, marked, nothingToCancel, moved, idle, held, wants, asleep, Said, refused, replied}
-use Rattle.model.specs.Lists.{implies, allOf, allBelow}
+use Rattle.model.specs.Lists.{implies, allOf, allBelow, sameNumbers}
 use Rattle.model.specs.Operations.{receiveTime}
 use Rattle.model.specs.Codes.{receiveTimeOver, sendTimeOver, receiveCancelled, sendCancelled, sameCode, View}
 use Rattle.model.specs.WellFormed.{wellFormed}
@@ -48,20 +48,13 @@ allowedTest n none p = true
 allowedTest n (some e) p = canTest n e p
 
 -- ---- both machines after each call
--- two lists of words are the same
-unfoldable pub sameWords : List ℕ → List ℕ → Bool
-sameWords [] [] = true
-sameWords [] (b ∷ r) = false
-sameWords (a ∷ q) [] = false
-sameWords (a ∷ q) (b ∷ r) = eqb a b && sameWords q r
-
 -- two threads show the same
 unfoldable pub sameView : View → View → Bool
 sameView v w = allOf (
     sameCode (v .outcome .code) (w .outcome .code)
     ∷ eqb (v .outcome .source) (w .outcome .source)
     ∷ eqb (v .outcome .count) (w .outcome .count)
-    ∷ sameWords (v .words) (w .words)
+    ∷ sameNumbers (v .words) (w .words)
     ∷ []
     )
 

@@ -28,6 +28,13 @@ unfoldable pub occurs : ℕ → List ℕ → ℕ
 occurs s [] = 0
 occurs s (a ∷ q) = bit (eqb a s) + occurs s q
 
+-- two lists are the same, number by number
+unfoldable pub sameNumbers : List ℕ → List ℕ → Bool
+sameNumbers [] [] = true
+sameNumbers [] (b ∷ r) = false
+sameNumbers (a ∷ q) [] = false
+sameNumbers (a ∷ q) (b ∷ r) = eqb a b && sameNumbers q r
+
 -- a list with the first s left out
 unfoldable pub without : ℕ → List ℕ → List ℕ
 without s [] = []

@@ -1,4 +1,3 @@
-pub mod Compared
 pub mod Numbers
 pub mod Pieces
 pub mod Runs

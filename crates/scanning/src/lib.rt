@@ -3,7 +3,8 @@ ghost use mathlib.Core.Path.{_≡_};
 ghost use mathlib.Core.Bool.{true};
 ghost use Prim.Native.Nat.{_*_, _+_, _-_, _≤_, min};
 ghost use lib.ListN.{length};
-ghost use Rattle.language.specs.Words.{isBlank, isDigit, sameWord, hasComma};
+ghost use Rattle.model.specs.Lists.{sameNumbers};
+ghost use Rattle.language.specs.Words.{isBlank, isDigit, hasComma};
 ghost use Rattle.scanning.specs.Scanned.{Run, Found, NumberRead, LineEnd, Shortened, ofWord, ofPiece, cap};
 
 // What stands between two words.
@@ -91,7 +92,7 @@ pub fn next_word(line: &[u8], from: usize) -> Span
 
 // Whether a word is this one.
 pub fn is_word(word: &[u8], name: &[u8]) -> bool
-    ensures { λ r. ⌜ r ≡ sameWord (now (word .entry)) (now (name .entry)) ⌝ }
+    ensures { λ r. ⌜ r ≡ sameNumbers (now (word .entry)) (now (name .entry)) ⌝ }
 {
     if word.len() != name.len() {
         return false;

@@ -7,10 +7,10 @@ use native.Mathlib.Omega.{arith}
 use lib.Dec.{leb, ltb}
 use borrow.Author.Tests.{leb-true, le-leb, ltb-false, ltb-true, ne-eqb}
 use Rattle.model.specs.Schedule.{isEmpty}
-use Rattle.model.specs.Lists.{concat, upTo}
+use Rattle.model.specs.Lists.{concat, upTo, sameNumbers}
 use Rattle.model.specs.Bondtrace.{ascii, digit, digits, decimal, spaced}
 use Rattle.model.proofs.Laws.{by, and-left, and-right, and-made}
-use Rattle.language.specs.Words.{sameWord, comma, hasComma, isDigit, allDigits, isNumber, grown, value}
+use Rattle.language.specs.Words.{comma, hasComma, isDigit, allDigits, isNumber, grown, value}
 use Rattle.language.specs.Runs.{each}
 use Rattle.spelling.proofs.Texts.{isWord, areWords, apart}
 
@@ -109,8 +109,8 @@ unfolding decimal
 decimal-no-comma n = digits-no-comma (decimal n) (all-digits (suc n) n)
 
 -- a number is no name that starts with a letter
-pub number-no-name : (word : List ℕ) (letter : ℕ) (name : List ℕ) → isNumber word ≡ true → 57 < letter → sameWord word (letter ∷ name) ≡ false
-unfolding isNumber allDigits isDigit sameWord
+pub number-no-name : (word : List ℕ) (letter : ℕ) (name : List ℕ) → isNumber word ≡ true → 57 < letter → sameNumbers word (letter ∷ name) ≡ false
+unfolding isNumber allDigits isDigit sameNumbers
 number-no-name [] letter name e h = refl
 number-no-name (byte ∷ word) letter name e h =
     let small : byte ≤ 57 = leb-true byte 57 (and-right (leb 48 byte) (leb byte 57) (and-left _ (allDigits word) e)) in

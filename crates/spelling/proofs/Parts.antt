@@ -11,7 +11,7 @@ use Rattle.model.specs.declared.SendPart.{SendPart}
 use Rattle.model.specs.declared.Receive.{Receive}
 use Rattle.model.specs.declared.Receive.the-variants.{Absent, Open, Closed, OneOf}
 use Rattle.model.specs.declared.Operation.{Operation}
-use Rattle.model.specs.Lists.{upTo}
+use Rattle.model.specs.Lists.{upTo, sameNumbers}
 use Rattle.model.specs.Operations.{receiveTime, openPart}
 use Rattle.model.specs.Encoding.{partnerOf, setOf}
 use Rattle.model.specs.Threads.{noOperation}
@@ -20,7 +20,6 @@ use Rattle.model.specs.Bondtrace.{ascii, decimal}
 use Rattle.model.proofs.Laws.{by, same?}
 use Rattle.laws.proofs.Lists.{cond-true, cond-false}
 use Rattle.roundtrip.proofs.Lists.{up-to-under, replicate-under}
-use Rattle.language.specs.Words.{sameWord}
 use Rattle.language.specs.Commands.{reached, readNumbers, Spelled, spelled, startsWith, closed, readOpen, readClosed, readOneOf, readPartners, readWait, readReceive, withWord, readWords, emptySend, readSend, readParts}
 use Rattle.language.specs.RecordText.{sentWords}
 use Rattle.roundtrip.specs.Fits.{AllUnder, FitsOperation}
@@ -56,14 +55,14 @@ unfolding startsWith ascii upTo
 not-set n left = number-no-name (decimal n) (code "s") (code "e" ∷ code "t" ∷ []) (number-decimal n) (omega arith)
 
 -- nor the word `receive`
-not-receive : (n : ℕ) → sameWord (decimal n) (ascii "receive") ≡ false
+not-receive : (n : ℕ) → sameNumbers (decimal n) (ascii "receive") ≡ false
 unfolding ascii upTo
 not-receive n = number-no-name (decimal n) (code "r") (code "e" ∷ code "c" ∷ code "e" ∷ code "i" ∷ code "v" ∷ code "e" ∷ []) (number-decimal n) (omega arith)
 
 -- the words of a receive part are read as it
 receive-read : (send : SendPart) (receive : Receive) → partnerOf receive < 256 → setOf receive < 0x1_0000_0000 → receiveTime receive < 256 → (openPart receive ≡ true → partnerOf receive ≡ 0)
     → readReceive send (receiveWords receive) ≡ spelled (record { send = send; receive = receive })
-unfolding readReceive receiveWords sameWord ascii upTo
+unfolding readReceive receiveWords sameNumbers ascii upTo
 receive-read send Absent p m t o = refl
 receive-read send (Open wait) p m t o = any-read
   where
@@ -93,7 +92,7 @@ with-words-last (first ∷ words) word send = with-words-last words word (withWo
 
 -- behind the last word the receive part is read
 words-end : (send : SendPart) (receive : Receive) → readWords send (receiveWords receive) ≡ readReceive send (receiveWords receive)
-unfolding readWords receiveWords sameWord ascii upTo
+unfolding readWords receiveWords sameNumbers ascii upTo
 words-end send Absent = refl
 words-end send (Open wait) = refl
 words-end send (Closed wait) = refl
@@ -160,13 +159,13 @@ sendWords send = cond (send .present) (ascii "send" ∷ decimal (send .target) �
 -- those of one that is there are read, and then the receive part
 send-read : (target time : ℕ) (words : List ℕ) (receive : Receive) → target < 256 → time < 256 → AllUnder 0x1_0000_0000 words
     → readParts (ascii "send" ∷ decimal target ∷ decimal time ∷ map decimal words ++ receiveWords receive) ≡ readReceive (withWords words (emptySend (target ∷ time ∷ []))) (receiveWords receive)
-unfolding readParts startsWith readSend sameWord ascii upTo
+unfolding readParts startsWith readSend sameNumbers ascii upTo
 send-read target time words receive t c small =
     ap readSend (two-bytes target time (map decimal words ++ receiveWords receive) t c) ∙ words-read words (emptySend (target ∷ time ∷ [])) receive small
 
 -- without one the receive part is read
 no-send-read : (receive : Receive) → readParts (receiveWords receive) ≡ readReceive (noOperation .send) (receiveWords receive)
-unfolding readParts startsWith receiveWords sameWord ascii upTo
+unfolding readParts startsWith receiveWords sameNumbers ascii upTo
 no-send-read Absent = refl
 no-send-read (Open wait) = refl
 no-send-read (Closed wait) = refl

@@ -3,15 +3,14 @@ use Prim.Native.Nat.{_-_, _≤_}
 use native.Mathlib.Omega.{arith}
 use lib.ListN.{length, drop}
 use borrow.Author.Needs.{needs}
-use Rattle.language.specs.Words.{sameWord}
-use Rattle.language.proofs.Words.{same-lengths}
-use Rattle.scanning.proofs.Compared.{same-byte, other-byte, same-ends}
+use Rattle.model.specs.Lists.{sameNumbers}
+use Rattle.laws.proofs.Same.{same-lengths, same-number, other-number, same-ends}
 use Rattle.scanning.proofs.is_word.Statement.{statement}
 use Rattle.scanning.proofs.is_word.Tie as tie
 
 -- what is left to compare decides
 abbrev Inv-loop : tie.InvT-loop
-Inv-loop word name i₀ i = (i ≤ length word) × (sameWord (drop i word) (drop i name) ≡ sameWord word name)
+Inv-loop word name i₀ i = (i ≤ length word) × (sameNumbers (drop i word) (drop i name) ≡ sameNumbers word name)
 
 -- how many bytes are left
 abbrev μ-loop : tie.MeasureT-loop
@@ -30,14 +29,14 @@ returns-2 : tie.Need-returns-2 Inv-loop μ-loop
 returns-2 c =
     let at-loop-test = c .before .before .before in
     let turn = at-loop-test .before in
-    sym (sym (turn .loop .inv .1) ∙ other-byte _ _ _ (at-loop-test .loop-test .taken) (omega arith) (c .if2 .taken))
+    sym (sym (turn .loop .inv .1) ∙ other-number _ _ _ (at-loop-test .loop-test .taken) (omega arith) (c .if2 .taken))
 
 -- bytes that are
 loop-again : tie.Need-loop-again Inv-loop μ-loop
 loop-again c =
     let at-loop-test = c .before .before .before in
     let turn = at-loop-test .before in
-    (search needs, same-byte _ _ _ (at-loop-test .loop-test .taken) (omega arith) (c .if2 .left) ∙ turn .loop .inv .1)
+    (search needs, same-number _ _ _ (at-loop-test .loop-test .taken) (omega arith) (c .if2 .left) ∙ turn .loop .inv .1)
 
 -- nothing is left
 returns-3 : tie.Need-returns-3 Inv-loop μ-loop

@@ -1,8 +1,7 @@
 use mathlib.Core.Path.{refl, sym, _∙_}
 use borrow.Author.Needs.{needs}
-use Rattle.language.specs.Words.{sameWord}
 use Rattle.model.specs.Bondtrace.{ascii}
-use Rattle.model.specs.Lists.{upTo}
+use Rattle.model.specs.Lists.{upTo, sameNumbers}
 use Rattle.commands.proofs.Spelling.{spells-as, starts-yes, starts-behind, starts-no, parts-send, parts-receive}
 use Rattle.commands.proofs.operations.read_parts.Statement.{statement}
 use Rattle.commands.proofs.operations.read_parts.Tie as tie
@@ -13,7 +12,7 @@ read-send-requires c κs = (c .before .before .before .before .next-word .ensure
 
 -- the word `send`
 returns : tie.Need-returns
-unfolding ascii upTo sameWord
+unfolding ascii upTo sameNumbers
 returns c =
     let at-is-word = c .before .before in
     let at-next-word = at-is-word .before .before .before in
@@ -21,7 +20,7 @@ returns c =
 
 -- another
 returns-2 : tie.Need-returns-2
-unfolding ascii upTo sameWord
+unfolding ascii upTo sameNumbers
 returns-2 c =
     let at-no-operation = c .before .before in
     let at-if1 = at-no-operation .before in

@@ -2,10 +2,10 @@ use mathlib.Core.Path.{_≡_, refl, sym, _∙_}
 use mathlib.Core.Bool.{false}
 use lib.ListN.{drop}
 use borrow.Author.Needs.{needs}
-use Rattle.language.specs.Words.{words, sameWord}
+use Rattle.language.specs.Words.{words}
 use Rattle.language.specs.Commands.{startsWith, readPartners, readWait}
 use Rattle.model.specs.Bondtrace.{ascii}
-use Rattle.model.specs.Lists.{upTo}
+use Rattle.model.specs.Lists.{upTo, sameNumbers}
 use Rattle.commands.proofs.Spelling.{spells-as, starts-yes, starts-behind, starts-no}
 use Rattle.commands.proofs.Partners.{wait-any, wait-set, wait-partners, partners-some, partners-one}
 use Rattle.commands.proofs.receives.read_wait.Statement.{statement}
@@ -21,7 +21,7 @@ first c = c .before .before .before
 
 -- the word `any`
 returns : tie.Need-returns
-unfolding ascii upTo sameWord
+unfolding ascii upTo sameNumbers
 returns c =
     let compared = c .before .before in
     let there = found compared .next-word .ensures in
@@ -30,12 +30,12 @@ returns c =
 
 -- another
 other : (c : tie.Else1) → startsWith (ascii "any") (words (drop (found (c .before) .before .before .args .at) (found (c .before) .before .before .args .line .now))) ≡ false
-unfolding ascii upTo sameWord
+unfolding ascii upTo sameNumbers
 other c = starts-no _ _ _ _ (found (c .before) .next-word .ensures) _ refl (sym (c .before .is-word .ensures) ∙ c .if1 .left)
 
 -- the word `set`
 returns-2 : tie.Need-returns-2
-unfolding ascii upTo sameWord
+unfolding ascii upTo sameNumbers
 returns-2 c =
     let compared = c .before .before in
     let there = found (first compared) .next-word .ensures in
@@ -45,7 +45,7 @@ returns-2 c =
 -- neither
 neither : (c : tie.Else2) → let entry = found (first (c .before)) .before .before in
     readPartners (entry .args .send) (words (drop (entry .args .at) (entry .args .line .now))) ≡ readWait (entry .args .send) (words (drop (entry .args .at) (entry .args .line .now)))
-unfolding ascii upTo sameWord
+unfolding ascii upTo sameNumbers
 neither c =
     let compared = c .before in
     wait-partners _ _ (other (compared .before .before)) (starts-no _ _ _ _ (found (first compared) .next-word .ensures) _ refl (sym (compared .is-word2 .ensures) ∙ c .if2 .left))
