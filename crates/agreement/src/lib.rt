@@ -1,0 +1,1 @@
+// No code: theorems about two logs, and when they agree.

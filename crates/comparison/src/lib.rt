@@ -1,0 +1,238 @@
+// The public call that compares a log of sends with a log of receives. It looks for the mate of each entry by senders and targets alone, which it reads from the logs once.
+ghost use mathlib.Core.Path.{_≡_};
+ghost use mathlib.Core.Bool.{not};
+ghost use Prim.Native.Nat.{_≤_, _<_};
+ghost use lib.ListN.{length};
+ghost use Rattle.model.specs.Operations.{wordLimit};
+ghost use Rattle.logs.specs.Comparison.{logged, entriesOf, sameMessage, firstBelow, sendDiffers, saidComparison, compare, badLog, compareAnswer};
+ghost use Rattle.comparison.specs.Columns.{isOf, earlier, placeOfRank, Columns, FirstUnsent, Good};
+use logs::Compared;
+use logs::Log;
+use logs::LogEntry;
+use threads::WORD_LIMIT;
+
+// The most entries of a log.
+const LOG_ROOM: u16 = 512;
+
+// The number by which a log is refused.
+const BAD_LOG: u8 = 22;
+
+// A log has at most 512 entries, of at most 8 words each.
+fn is_good(log: Log) -> bool
+    ensures { λ r. ⌜ r ≡ not (badLog log .when) ⌝ }
+{
+    if LOG_ROOM < log.len {
+        return false;
+    }
+    let len = log.len as usize;
+    let mut i: usize = 0;
+    while i < len {
+        let entry = log.entries[i];
+        if WORD_LIMIT < entry.count {
+            return false;
+        }
+        i += 1;
+    }
+    true
+}
+
+// Writes the senders and the targets of a log's entries.
+fn read_columns(log: Log, senders: &mut [u8], targets: &mut [u8])
+    requires { ⌜ Good log ⌝ }
+    requires { ⌜ length (now senders) ≡ log .len ⌝ }
+    requires { ⌜ length (now targets) ≡ log .len ⌝ }
+    ensures { λ _. ⌜ Columns (entriesOf log) (now (senders .exit)) (now (targets .exit)) ⌝ }
+{
+    let len = log.len as usize;
+    let mut i: usize = 0;
+    while i < len {
+        let entry = log.entries[i];
+        senders[i] = entry.sender;
+        targets[i] = entry.target;
+        i += 1;
+    }
+}
+
+// A place is of a sender and a target.
+fn is_of(senders: &[u8], targets: &[u8], s: u8, t: u8, k: usize) -> bool
+    requires { ⌜ (k < length (now senders)) × (k < length (now targets)) ⌝ }
+    ensures { λ r. ⌜ r ≡ isOf (now (senders .entry)) (now (targets .entry)) s t k ⌝ }
+{
+    (senders[k] == s) & (targets[k] == t)
+}
+
+// How many entries before a place are of a sender and a target.
+fn count_earlier(senders: &[u8], targets: &[u8], s: u8, t: u8, end: usize) -> usize
+    requires { ⌜ length (now senders) ≡ length (now targets) ⌝ }
+    requires { ⌜ end ≤ length (now senders) ⌝ }
+    ensures { λ r. ⌜ r ≡ earlier (now (senders .entry)) (now (targets .entry)) s t end ⌝ }
+{
+    let mut count: usize = 0;
+    let mut k: usize = 0;
+    while k < end {
+        if is_of(senders, targets, s, t, k) {
+            count += 1;
+        }
+        k += 1;
+    }
+    count
+}
+
+// The place of the entry of a sender, a target and a rank; the log's length where there is none.
+fn find_rank(senders: &[u8], targets: &[u8], s: u8, t: u8, rank: usize) -> usize
+    requires { ⌜ length (now senders) ≡ length (now targets) ⌝ }
+    ensures { λ r. ⌜ r ≡ placeOfRank (now (senders .entry)) (now (targets .entry)) s t rank ⌝ }
+{
+    let mut seen: usize = 0;
+    let mut k: usize = 0;
+    while k < senders.len() {
+        if is_of(senders, targets, s, t, k) {
+            if seen == rank {
+                return k;
+            }
+            seen += 1;
+        }
+        k += 1;
+    }
+    k
+}
+
+// Two entries have the same count and words.
+fn same_message(a: LogEntry, b: LogEntry) -> bool
+    requires { ⌜ (a .count ≤ wordLimit) × (b .count ≤ wordLimit) ⌝ }
+    ensures { λ r. ⌜ r ≡ sameMessage (logged a) (logged b) ⌝ }
+{
+    if a.count != b.count {
+        return false;
+    }
+    let count = a.count as usize;
+    let mut k: usize = 0;
+    while k < count {
+        if a.words[k] != b.words[k] {
+            return false;
+        }
+        k += 1;
+    }
+    true
+}
+
+// The first send that differs from the receive of its rank, or has none; how many sends there are where there is no such send.
+fn first_send(
+    sends: Log,
+    receives: Log,
+    senders: &[u8],
+    targets: &[u8],
+    sources: &[u8],
+    receivers: &[u8],
+) -> usize
+    requires { ⌜ Good sends ⌝ }
+    requires { ⌜ Good receives ⌝ }
+    requires { ⌜ Columns (entriesOf sends) (now senders) (now targets) ⌝ }
+    requires { ⌜ Columns (entriesOf receives) (now sources) (now receivers) ⌝ }
+    ensures { λ r. ⌜ r ≡ firstBelow (length (entriesOf sends)) (sendDiffers (entriesOf sends) (entriesOf receives)) ⌝ }
+{
+    let mut i: usize = 0;
+    while i < senders.len() {
+        let s = senders[i];
+        let t = targets[i];
+        let rank = count_earlier(senders, targets, s, t, i);
+        let j = find_rank(sources, receivers, s, t, rank);
+        if sources.len() <= j {
+            return i;
+        }
+        let sent = sends.entries[i];
+        let received = receives.entries[j];
+        if !same_message(sent, received) {
+            return i;
+        }
+        i += 1;
+    }
+    i
+}
+
+// The first receive whose rank has no send; how many receives there are where there is no such receive.
+fn first_receive(senders: &[u8], targets: &[u8], sources: &[u8], receivers: &[u8]) -> usize
+    requires { ⌜ length (now senders) ≡ length (now targets) ⌝ }
+    requires { ⌜ length (now sources) ≡ length (now receivers) ⌝ }
+    ensures { λ r. ⌜ FirstUnsent (now (senders .entry)) (now (targets .entry)) (now (sources .entry)) (now (receivers .entry)) r ⌝ }
+{
+    let mut j: usize = 0;
+    while j < sources.len() {
+        let s = sources[j];
+        let t = receivers[j];
+        let rank = count_earlier(sources, receivers, s, t, j);
+        let i = find_rank(senders, targets, s, t, rank);
+        if senders.len() <= i {
+            return j;
+        }
+        j += 1;
+    }
+    j
+}
+
+// Compares two logs that are not refused, with their columns.
+fn compare_columns(
+    sends: Log,
+    receives: Log,
+    senders: &[u8],
+    targets: &[u8],
+    sources: &[u8],
+    receivers: &[u8],
+) -> Compared
+    requires { ⌜ Good sends ⌝ }
+    requires { ⌜ Good receives ⌝ }
+    requires { ⌜ Columns (entriesOf sends) (now senders) (now targets) ⌝ }
+    requires { ⌜ Columns (entriesOf receives) (now sources) (now receivers) ⌝ }
+    ensures { λ r. ⌜ saidComparison r ≡ compare (entriesOf sends) (entriesOf receives) ⌝ }
+{
+    let i = first_send(sends, receives, senders, targets, sources, receivers);
+    if i < senders.len() {
+        return Compared::Send(i as u16);
+    }
+    let j = first_receive(senders, targets, sources, receivers);
+    if j < sources.len() {
+        return Compared::Receive(j as u16);
+    }
+    Compared::Agree
+}
+
+// Room for a column.
+fn empty_column() -> [u8; 512]
+    ensures { λ r. ⌜ 512 ≡ length r ⌝ }
+{
+    [0; 512]
+}
+
+// Compares two logs that are not refused.
+fn compare_good(sends: Log, receives: Log) -> Compared
+    requires { ⌜ Good sends ⌝ }
+    requires { ⌜ Good receives ⌝ }
+    ensures { λ r. ⌜ saidComparison r ≡ compare (entriesOf sends) (entriesOf receives) ⌝ }
+{
+    let sent = sends.len as usize;
+    let received = receives.len as usize;
+    let mut from = empty_column();
+    let mut to = empty_column();
+    let senders: &mut [u8] = &mut from[0..sent];
+    let targets: &mut [u8] = &mut to[0..sent];
+    read_columns(sends, senders, targets);
+    let mut source = empty_column();
+    let mut receiver = empty_column();
+    let sources: &mut [u8] = &mut source[0..received];
+    let receivers: &mut [u8] = &mut receiver[0..received];
+    read_columns(receives, sources, receivers);
+    compare_columns(sends, receives, senders, targets, sources, receivers)
+}
+
+// Compares a log of sends with a log of receives: whether they agree, else the first send that differs, else the first receive that was not sent.
+pub fn compare(sends: Log, receives: Log) -> Compared
+    ensures { λ r. ⌜ saidComparison r ≡ compareAnswer sends receives ⌝ }
+{
+    if !is_good(sends) {
+        return Compared::Refused(BAD_LOG);
+    }
+    if !is_good(receives) {
+        return Compared::Refused(BAD_LOG);
+    }
+    compare_good(sends, receives)
+}

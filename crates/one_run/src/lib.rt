@@ -1,0 +1,1 @@
+// No code: the two logs of one run, and that they agree.
