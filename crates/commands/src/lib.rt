@@ -79,6 +79,12 @@ pub const COUNT_ROW: u8 = 18;
 
 pub const PLACES_ROW: u8 = 19;
 
+pub const SENT_ROW: u8 = 20;
+
+pub const RECEIVED_ROW: u8 = 21;
+
+pub const COMPARE_ROW: u8 = 22;
+
 // Then the fields that `set` can set.
 pub const FLAGS_ROW: u8 = FIRST_FIELD as u8;
 
@@ -111,7 +117,7 @@ pub const NOTHING: u8 = 255;
 const SET_ROW: usize = 13;
 
 // The first row that is a field, and how many fields there are.
-const FIRST_FIELD: usize = 20;
+const FIRST_FIELD: usize = 23;
 
 const FIELDS: usize = 12;
 
@@ -380,6 +386,9 @@ rule        bbbby  .
 rules              .
 count       n      .
 places      l      .
+sent        bb     w
+received    bb     w
+compare            .
 flags       11111  .
 phase       b      .
 left        n      .

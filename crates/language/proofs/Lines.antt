@@ -40,6 +40,7 @@ pub data Name : Type 0 where
   a-set largest-set above-a-set set-of-a-list set-of-nothing some-partners same-partner-twice partner-not-below-32 partner-of-letters any-and-more nobody-between-commas nobody-behind-a-comma partners-and-more : Name
   a-rule rule-that-forbids rule-of-neither rule-of-a-prefix rule-undecided rule-of-three rule-and-more all-rules rules-of-one : Name
   a-count count-too-long count-of-two the-places too-many-places : Name
+  a-send send-of-no-words largest-word above-a-word send-of-letters send-to-nobody a-receive receive-from-256 both-logs logs-of-one : Name
 
 -- the line and the command of each
 unfoldable pub row : Name → LineRow
@@ -119,6 +120,16 @@ row count-too-long = refuses "count 65536" tooLarge "65536"
 row count-of-two = refuses "count 1 2" tooMuch "2"
 row the-places = asks "places 4200" 19 (4200 ∷ [])
 row too-many-places = refuses "places 4201" tooLarge "4201"
+row a-send = asks "sent 0 255 7 0 9" 20 (0 ∷ 255 ∷ 7 ∷ 0 ∷ 9 ∷ [])
+row send-of-no-words = asks "sent 0 1" 20 (0 ∷ 1 ∷ [])
+row largest-word = asks "sent 0 1 4294967295" 20 (0 ∷ 1 ∷ 4294967295 ∷ [])
+row above-a-word = refuses "sent 0 1 2 4294967296" tooLarge "4294967296"
+row send-of-letters = refuses "sent 0 1 2 x" notNumber "x"
+row send-to-nobody = refuses "sent 0" missing ""
+row a-receive = asks "received 1 0 7" 21 (1 ∷ 0 ∷ 7 ∷ [])
+row receive-from-256 = refuses "received 0 256" tooLarge "256"
+row both-logs = asks "compare" 22 []
+row logs-of-one = refuses "compare 0" tooMuch "0"
 
 -- each line is the command that stands beside it
 pub lines-read : (n : Name) → commandOf (ascii (row n .line)) ≡ row n .command
@@ -187,6 +198,16 @@ lines-read count-too-long = refl
 lines-read count-of-two = refl
 lines-read the-places = refl
 lines-read too-many-places = refl
+lines-read a-send = refl
+lines-read send-of-no-words = refl
+lines-read largest-word = refl
+lines-read above-a-word = refl
+lines-read send-of-letters = refl
+lines-read send-to-nobody = refl
+lines-read a-receive = refl
+lines-read receive-from-256 = refl
+lines-read both-logs = refl
+lines-read logs-of-one = refl
 
 -- ---- lines that are too long to stand in a row
 -- "Words past the eighth are counted, to any number (300 words are refused 9 and do not wrap round), and not kept": the count stays at 255
@@ -194,6 +215,11 @@ pub many-words : commandOf (ascii "begin 0 send 1 15" ++ concat (replicate 300 (
     ≡ asked 1 (0 ∷ []) (record { send = record { present = true; target = 1; count = 255; time = 15; words = replicate 8 7 }; receive = Absent })
 unfolding computing
 many-words = refl
+
+-- every word of an entry is read, to any number that a line can have
+pub many-sent : commandOf (ascii "sent 0 1" ++ concat (replicate 2043 (ascii " 7"))) ≡ asked 20 (0 ∷ 1 ∷ replicate 2043 7) noOperation
+unfolding computing
+many-sent = refl
 
 -- a line of 4,095 bytes is read
 pub long-enough : commandOf (ascii "#" ++ replicate 4094 32) ≡ skipped

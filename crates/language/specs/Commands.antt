@@ -59,6 +59,10 @@ noChoice = 12
 abbrev pub rowsFull : ℕ
 rowsFull = 13
 
+-- why an entry of a log is not kept
+abbrev pub logFull : ℕ
+logFull = 14
+
 -- the reasons in plain words
 unfoldable pub reasons : List (List ℕ)
 reasons =
@@ -76,6 +80,7 @@ reasons =
     ∷ ascii "table stands first, and only there"
     ∷ ascii "neither yes nor no"
     ∷ ascii "no more than 80 rows are kept"
+    ∷ ascii "no more than 520 entries are kept"
     ∷ []
 
 -- one of them

@@ -32,6 +32,9 @@ grammar = concat (
     ∷ ascii "rules              .\n"
     ∷ ascii "count       n      .\n"
     ∷ ascii "places      l      .\n"
+    ∷ ascii "sent        bb     w\n"
+    ∷ ascii "received    bb     w\n"
+    ∷ ascii "compare            .\n"
     ∷ ascii "flags       11111  .\n"
     ∷ ascii "phase       b      .\n"
     ∷ ascii "left        n      .\n"
@@ -59,11 +62,11 @@ mostNumbers = 7
 
 -- the rows before this are commands, the others are fields
 abbrev pub firstField : ℕ
-firstField = 20
+firstField = 23
 
 -- how many rows there are
 abbrev pub rows : ℕ
-rows = 32
+rows = 35
 
 -- `set`, the command whose second word is a field
 abbrev pub setRow : ℕ
@@ -126,4 +129,5 @@ unfoldable pub mostMore : ℕ → ℕ
 mostMore letter =
     cond (eqb letter (code "k")) 1
     (cond (eqb letter (code "q")) 32
-    (cond (eqb letter (code "b")) 2048 0))
+    (cond (eqb letter (code "b")) 2048
+    (cond (eqb letter (code "w")) 2048 0)))

@@ -36,7 +36,7 @@ least-below letter = search (cond-below, lit<, tt)
 -- at most 2,048 numbers more may follow
 pub more-below : (letter : ℕ) → mostMore letter < 2049
 unfolding mostMore
-more-below letter = search (cond-below, lit<, tt)
+more-below letter = search (cond-below, lit<, tt) depth 8
 
 -- ---- a sign
 -- a word with one is not empty

@@ -109,6 +109,9 @@ pub fn most_more(letter: u8) -> usize
     if letter == BYTE {
         return 2048;
     }
+    if letter == WORD {
+        return 2048;
+    }
     0
 }
 

@@ -20,9 +20,9 @@ use Rattle.text.proofs.Writing.{nothing-written, _then_}
 use Rattle.replies.specs.Replied.{namesWord, namedWord, behindSpaces}
 
 -- past the last reason there is no text
-pub no-reason : (k : ℕ) → k ≢ 0 → k ≢ 1 → k ≢ 2 → k ≢ 3 → k ≢ 4 → k ≢ 5 → k ≢ 6 → k ≢ 7 → k ≢ 8 → k ≢ 9 → k ≢ 10 → k ≢ 11 → k ≢ 12 → k ≢ 13 → reasonText k ≡ []
+pub no-reason : (k : ℕ) → k ≢ 0 → k ≢ 1 → k ≢ 2 → k ≢ 3 → k ≢ 4 → k ≢ 5 → k ≢ 6 → k ≢ 7 → k ≢ 8 → k ≢ 9 → k ≢ 10 → k ≢ 11 → k ≢ 12 → k ≢ 13 → k ≢ 14 → reasonText k ≡ []
 unfolding reasonText reasons
-no-reason k n0 n1 n2 n3 n4 n5 n6 n7 n8 n9 n10 n11 n12 n13 = List·getD-eq-default reasons [] (last k (past k (half k n0 n1 n2 n3 n4 n5) n6 n7 n8 n9 n10 n11) n12 n13)
+no-reason k n0 n1 n2 n3 n4 n5 n6 n7 n8 n9 n10 n11 n12 n13 n14 = List·getD-eq-default reasons [] (last k (past k (half k n0 n1 n2 n3 n4 n5) n6 n7 n8 n9 n10 n11) n12 n13 n14)
   where
     half : (k : ℕ) → k ≢ 0 → k ≢ 1 → k ≢ 2 → k ≢ 3 → k ≢ 4 → k ≢ 5 → 6 ≤ k
     half k n0 n1 n2 n3 n4 n5 = omega arith
@@ -30,8 +30,8 @@ no-reason k n0 n1 n2 n3 n4 n5 n6 n7 n8 n9 n10 n11 n12 n13 = List·getD-eq-defaul
     past : (k : ℕ) → 6 ≤ k → k ≢ 6 → k ≢ 7 → k ≢ 8 → k ≢ 9 → k ≢ 10 → k ≢ 11 → 12 ≤ k
     past k h n6 n7 n8 n9 n10 n11 = omega arith
 
-    last : (k : ℕ) → 12 ≤ k → k ≢ 12 → k ≢ 13 → 14 ≤ k
-    last k h n12 n13 = omega arith
+    last : (k : ℕ) → 12 ≤ k → k ≢ 12 → k ≢ 13 → k ≢ 14 → 15 ≤ k
+    last k h n12 n13 n14 = omega arith
 
 -- ---- the word that is wrong
 -- a word is empty where it has no byte

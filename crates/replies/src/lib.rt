@@ -21,6 +21,9 @@ pub const TABLE_FIRST: u8 = 11;
 // Why a row of rules is not kept.
 pub const ROWS_FULL: u8 = 13;
 
+// Why an entry of a log is not.
+pub const LOG_FULL: u8 = 14;
+
 // A reason in plain words.
 fn put_reason(out: &mut [u8], start: usize, reason: u8) -> usize
     ensures { λ r. ⌜ Written start (reasonText reason) (now (out .entry)) (now (out .exit)) r ⌝ }
@@ -40,6 +43,7 @@ fn put_reason(out: &mut [u8], start: usize, reason: u8) -> usize
         TABLE_FIRST => put_text(out, start, b"table stands first, and only there"),
         letters::NO_CHOICE => put_text(out, start, b"neither yes nor no"),
         ROWS_FULL => put_text(out, start, b"no more than 80 rows are kept"),
+        LOG_FULL => put_text(out, start, b"no more than 520 entries are kept"),
         _ => start,
     }
 }
@@ -144,6 +148,9 @@ outcome X                X, code, source, count and words
 report                   the same without words, for each thread
 show                     every field in use of every thread
 search X                 which sender the search of X finds, or none, and how many queue places it read
+sent S T WORD ..         notes in a log of sends that S sent T these words; up to 520 are kept
+received T S WORD ..     notes in a log of receives that T received these words from S; up to 520 are kept
+compare                  compares both logs and forgets them: agree, or the first send that differs from its receive, or the first receive that was not sent
 count L                  how many lists of L steps (10 at most) end with which codes, thread 0 first, for at most 4 threads
 say WORD ..              the words, as a mark
 store K V                lends a store of K words, each V

@@ -63,15 +63,21 @@ returns-14 : tie.Need-returns-14
 unfolding reasonText reasons ascii upTo
 returns-14 c = let written = c .before .before in rw (written .before .before .before .match .keys14) (written .put-text14 .ensures)
 
--- past the last there is none
 returns-15 : tie.Need-returns-15
-returns-15 c = let ((((((((((((((u, k0), k1), k2), k3), k4), k5), k6), k7), k8), k9), k10), k11), k12), k13) = c .match .rest in
-    rw (no-reason (c .before .before .args .reason) k0 k1 k2 k3 k4 k5 k6 k7 k8 k9 k10 k11 k12 k13) (nothing-written _ _)
+unfolding reasonText reasons ascii upTo
+returns-15 c = let written = c .before .before in rw (written .before .before .before .match .keys15) (written .put-text15 .ensures)
+
+-- past the last there is none
+returns-16 : tie.Need-returns-16
+returns-16 c = let (((((((((((((((u, k0), k1), k2), k3), k4), k5), k6), k7), k8), k9), k10), k11), k12), k13), k14) = c .match .rest in
+    rw (no-reason (c .before .before .args .reason) k0 k1 k2 k3 k4 k5 k6 k7 k8 k9 k10 k11 k12 k13 k14) (nothing-written _ _)
 
 pub put-reason-spec : {M : Type 1} → statement M
 put-reason-spec =
     tie.close
     (tie.spec
+    (λ c. search needs)
+    (λ c κs. search needs)
     (λ c. search needs)
     (λ c κs. search needs)
     (λ c. search needs)
@@ -128,4 +134,6 @@ put-reason-spec =
     returns-13
     (λ c. search needs)
     returns-14
-    returns-15)
+    (λ c. search needs)
+    returns-15
+    returns-16)
