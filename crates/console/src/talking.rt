@@ -30,6 +30,7 @@ fn answer_line(
     line: &[u8],
     number: u64,
     numbers: &mut [u32],
+    entries: &mut [u32],
     out: &mut [u8],
     watched: bool,
 ) -> Standing
@@ -39,7 +40,7 @@ fn answer_line(
     let session = before.session;
     let stored = before.words;
     let mut words = stored;
-    let reply = dialogue::respond(session, line, number, numbers, &mut words, out);
+    let reply = dialogue::respond(session, line, number, numbers, &mut words, entries, out);
     let after = reply.session;
     let end = numbers::lesser(reply.end, out.len());
     io::write_all(STDOUT_FILENO, &out[0..end]);
@@ -58,6 +59,8 @@ pub fn talk(input: i32, watched: bool) {
     let out: &mut [u8] = &mut text;
     let mut read = commands::no_numbers();
     let numbers: &mut [u32] = &mut read;
+    let mut noted = dialogue::no_entries();
+    let entries: &mut [u32] = &mut noted;
     let mut standing = at_first();
     let mut feed = line_input::unread();
     let mut line: u64 = 0;
@@ -70,6 +73,14 @@ pub fn talk(input: i32, watched: bool) {
         line += 1;
         let start = taken.start;
         let stop = taken.stop;
-        standing = answer_line(standing, &buffer[start..stop], line, numbers, out, watched);
+        standing = answer_line(
+            standing,
+            &buffer[start..stop],
+            line,
+            numbers,
+            entries,
+            out,
+            watched,
+        );
     }
 }

@@ -25,7 +25,7 @@ fn returned_line(session: Session, returned: Returned, out: &mut [u8]) -> Reply 
     }
 }
 
-// A new table, a store of 8×N zeros and N records; the rows noted and the places lent stay. Refused, everything is as it was.
+// A new table, a store of 8×N zeros and N records; the rows and entries noted and the places lent stay. Refused, everything is as it was.
 pub fn table(session: Session, n: u8, store: &mut [u32], out: &mut [u8]) -> Reply {
     let made = engine::make(n);
     let answer = made.answer;
@@ -42,6 +42,8 @@ pub fn table(session: Session, n: u8, store: &mut [u32], out: &mut [u8]) -> Repl
         records: n as usize,
         noted: noted,
         places: session.places,
+        sends: session.sends,
+        receives: session.receives,
     };
     let end = put_word(out, b"made");
     Reply {

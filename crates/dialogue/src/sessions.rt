@@ -5,8 +5,10 @@ ghost use lib.ListN.{length};
 ghost use Rattle.commands.specs.Standing.{lineRoom};
 use crate::calls;
 use crate::fields;
+use crate::logged;
 use commands::BEGIN_ROW;
 use commands::CANCEL_ROW;
+use commands::COMPARE_ROW;
 use commands::COUNT_ROW;
 use commands::HELP_ROW;
 use commands::OUTCOME_ROW;
@@ -18,6 +20,7 @@ use commands::RULE_ROW;
 use commands::RULES_ROW;
 use commands::SAY_ROW;
 use commands::SEARCH_ROW;
+use commands::SENT_ROW;
 use commands::SHOW_ROW;
 use commands::SIZE_ROW;
 use commands::SPARK_ROW;
@@ -31,13 +34,15 @@ use model::Rules;
 use model::Table;
 use numbers::lesser;
 
-// What a dialogue keeps: a table, how many words are lent as a store, how many records to the report, the rows noted for the next loading, and how many places are lent to a count.
+// What a dialogue keeps: a table, how many words are lent as a store, how many records to the report, the rows noted for the next loading, how many places are lent to a count, and how many entries the logs of sends and of receives have.
 pub struct Session {
     pub table: Table,
     pub words: usize,
     pub records: usize,
     pub noted: Rules,
     pub places: usize,
+    pub sends: u16,
+    pub receives: u16,
 }
 
 // What is kept after a line, and where its answer ends.
@@ -54,6 +59,8 @@ pub fn new_session() -> Session {
         records: 0,
         noted: rules::no_rules(),
         places: 4096,
+        sends: 0,
+        receives: 0,
     }
 }
 
@@ -129,6 +136,11 @@ fn calls_engine(row: u8) -> bool {
     (row <= TICK_ROW) | (row == SPARK_ROW) | (row == RULES_ROW)
 }
 
+// Whether a command is on the logs of sends and of receives.
+fn on_logs(row: u8) -> bool {
+    (SENT_ROW <= row) & (row <= COMPARE_ROW)
+}
+
 // The commands that lend something, note a row of rules, or set something by force.
 fn forced(
     session: Session,
@@ -149,13 +161,39 @@ fn forced(
     }
 }
 
-// Does what a line asks for, and puts the answer at the front of `out`. The numbers are where those of the line are put, the store is what is lent from.
+// Does what a command asks for.
+fn done(
+    session: Session,
+    command: Parsed,
+    line: &[u8],
+    number: u64,
+    numbers: &[u32],
+    store: &mut [u32],
+    entries: &mut [u32],
+    out: &mut [u8],
+) -> Reply {
+    let row = command.row;
+    if only_prints(row) {
+        let end = told(session, row, numbers, line, store, out);
+        return only_text(session, end);
+    }
+    if on_logs(row) {
+        return logged::recorded(session, row, number, numbers, entries, out);
+    }
+    if calls_engine(row) {
+        return called(session, command, numbers, store, out);
+    }
+    forced(session, command, number, numbers, store, out)
+}
+
+// Does what a line asks for, and puts the answer at the front of `out`. The numbers are where those of the line are put, the store is what is lent from, and the entries are those of the logs.
 pub fn respond(
     session: Session,
     line: &[u8],
     number: u64,
     numbers: &mut [u32],
     store: &mut [u32],
+    entries: &mut [u32],
     out: &mut [u8],
 ) -> Reply
     requires { ⌜ lineRoom ≤ length (now numbers) ⌝ }
@@ -170,15 +208,7 @@ pub fn respond(
     if command.row == commands::NOTHING {
         return only_text(session, 0);
     }
-    let row = command.row;
     let count = command.count;
     let read = &numbers[0..count];
-    if only_prints(row) {
-        let end = told(session, row, read, line, store, out);
-        return only_text(session, end);
-    }
-    if calls_engine(row) {
-        return called(session, command, read, store, out);
-    }
-    forced(session, command, number, read, store, out)
+    done(session, command, line, number, read, store, entries, out)
 }

@@ -1,4 +1,4 @@
--- What the console answers to `search` and `rules`, in the words of its table of commands.
+-- What the console answers to `search`, `rules` and `compare`, in the words of its table of commands.
 use mathlib.Core.Bool.{cond}
 use mathlib.Core.List.{List, [], _++_}
 use Prim.Native.Nat.{ℕ}
@@ -7,6 +7,8 @@ use Rattle.model.specs.declared.Answer.{Answer}
 use Rattle.model.specs.declared.Pair.{Pair}
 use Rattle.model.specs.declared.Misfit.{Misfit}
 use Rattle.model.specs.declared.Misfit.the-variants.{Fits, TooMany, Gap, Overlap}
+use Rattle.logs.specs.declared.Compared.{Compared}
+use Rattle.logs.specs.declared.Compared.the-variants.{Refused, Agree, Send, Receive}
 use Rattle.model.specs.Answers.{SaidSearch, notReceiving, searched}
 use Rattle.model.specs.Bondtrace.{ascii, decimal}
 use Rattle.model.specs.Codes.{nobody}
@@ -37,3 +39,14 @@ misfitText (Overlap pair) = ascii " overlap" ++ pairText (pairOf (Overlap pair))
 -- "`accepted`, `refused 14 gap S T`, `refused 14 overlap S T`, `refused 14 rows 255 255`, or `refused R`"
 unfoldable pub loadedText : Answer → Misfit → List ℕ
 loadedText answer misfit = answerText answer ++ misfitText misfit ++ ascii "\n"
+
+-- a number behind its name, as a line
+unfoldable pub namedNumber : List ℕ → ℕ → List ℕ
+namedNumber name number = name ++ decimal number ++ ascii "\n"
+
+-- "`agree`, `send I`, `receive I` (entries counted from 0) or `refused 22`"
+unfoldable pub comparedText : Compared → List ℕ
+comparedText (Refused number) = namedNumber (ascii "refused ") number
+comparedText Agree = ascii "agree" ++ ascii "\n"
+comparedText (Send place) = namedNumber (ascii "send ") place
+comparedText (Receive place) = namedNumber (ascii "receive ") place
