@@ -5,6 +5,7 @@ ghost use lib.ListN.{length};
 ghost use Rattle.model.specs.RecordBytes.{longestRecord};
 ghost use Rattle.record_input.specs.Places.{Within};
 use crate::answers;
+use crate::entries;
 use crate::lines::print_thread;
 use crate::spoken;
 use model::Answer;
@@ -16,6 +17,13 @@ use record_input::Span;
 use record_input::next_record;
 use record_input::nothing_read;
 use record_input::print_bad;
+
+// What is printed of a schedule: every field of every thread, what changed, in words, or the logs of two recorders.
+pub const FULL: u8 = 0;
+
+pub const WORDS: u8 = 1;
+
+pub const LOGS: u8 = 2;
 
 // Prints the lines of all threads.
 fn print_threads(table: Table, store: &[u32]) {
@@ -62,31 +70,46 @@ fn words_of(store: &[u32]) -> [u32; 256]
     words
 }
 
+// Prints the answer to a record's call, and every field.
+fn print_full(place: u64, answer: Answer, after: Table, store: &[u32]) {
+    answers::print_answer(place, answer);
+    print_threads(after, store);
+}
+
 // Makes the call of a record and prints what comes of it: the table after it.
-fn follow_record(place: u64, item: Record, table: Table, store: &mut [u32], spoken: bool) -> Table
+fn follow_record(place: u64, item: Record, table: Table, store: &mut [u32], mode: u8) -> Table
     ensures { λ _. ⌜ length (now (store .exit)) ≡ length (now (store .entry)) ⌝ }
 {
     let old = words_of(store);
     let returned = call(table, item, store);
     let answer = returned.answer;
     let after = returned.table;
-    if spoken {
-        spoken::print_spoken(place, item, answer, table, after, &old, store);
-        return after;
+    match mode {
+        WORDS => spoken::print_spoken(place, item, answer, table, after, &old, store),
+        LOGS => entries::print_meeting(item, answer, table, after, store),
+        _ => print_full(place, answer, after, store),
     }
-    answers::print_answer(place, answer);
-    print_threads(after, store);
     after
 }
 
-// Prints what comes of the table record.
-fn follow_first(item: Record, made: Table, store: &[u32], spoken: bool) {
-    if spoken {
+// Prints what comes of the table record, which is no rendezvous.
+fn follow_first(item: Record, made: Table, store: &[u32], mode: u8) {
+    if mode == LOGS {
+        return;
+    }
+    if mode == WORDS {
         spoken::print_made(item);
         return;
     }
     answers::print_made();
     print_threads(made, store);
+}
+
+// Prints what stands behind the last record: of the logs, that they are compared.
+fn follow_last(mode: u8) {
+    if mode == LOGS {
+        entries::print_compare();
+    }
 }
 
 // Follows the records after the first, which has so many bytes and stood before a slice of the buffer.
@@ -97,7 +120,7 @@ fn follow_rest(
     rest: Span,
     made: Table,
     store: &mut [u32],
-    spoken: bool,
+    mode: u8,
 )
     requires { ⌜ Within (length (now buffer)) rest ⌝ }
     requires { ⌜ (0 < size) × (size ≤ longestRecord) ⌝ }
@@ -109,6 +132,7 @@ fn follow_rest(
     while byte < LAST_BYTE {
         let next = next_record(input, buffer, left, false);
         if next.over {
+            follow_last(mode);
             return;
         }
         let length = next.length;
@@ -117,7 +141,7 @@ fn follow_rest(
             return;
         }
         let item = next.item;
-        table = follow_record(place, item, table, store, spoken);
+        table = follow_record(place, item, table, store, mode);
         left = next.left;
         byte += length as u64;
         place += 1;
@@ -131,8 +155,8 @@ fn zero_store() -> [u32; 256]
     [0; 256]
 }
 
-// Follows the schedule that a descriptor delivers, to its end or to a record that is refused; in words, or in full.
-pub fn follow(input: i32, spoken: bool) {
+// Follows the schedule that a descriptor delivers, to its end or to a record that is refused, and prints what the mode says.
+pub fn follow(input: i32, mode: u8) {
     let mut space = io::large_buffer();
     let buffer: &mut [u8] = &mut space;
     let before = nothing_read(buffer);
@@ -151,7 +175,7 @@ pub fn follow(input: i32, spoken: bool) {
     let table = made.table;
     let words = 8 * (table.n as usize);
     let mut store = zero_store();
-    follow_first(first.item, table, &store[0..words], spoken);
+    follow_first(first.item, table, &store[0..words], mode);
     let rest = first.left;
     follow_rest(
         input,
@@ -160,6 +184,6 @@ pub fn follow(input: i32, spoken: bool) {
         rest,
         table,
         &mut store[0..words],
-        spoken,
+        mode,
     );
 }

@@ -1,12 +1,13 @@
 // Plays the schedules that its arguments name as bondtrace does, those behind the word `steps` as steptrace does, those behind the word `words` as it does
-// in words, and those behind the word `texts` through their text and back. Last it tries what no schedule and no line of the console can say.
+// in words, those behind the word `logs` as it does for two recorders, and those behind the word `texts` through their text and back. Last it tries what no schedule and no line of the console can say.
 mod cases;
 mod texts;
 mod trying;
 
 use libc::STDOUT_FILENO;
+use scanning::is_word;
 
-// What is done with a schedule: it is played to its end, followed record by record, in full or in words, or read back from its text.
+// What is done with a schedule: it is played to its end, followed record by record, in full, in words or as two recorders note it, or read back from its text.
 const ENDS: u8 = 0;
 
 const STEPS: u8 = 1;
@@ -15,38 +16,41 @@ const WORDS: u8 = 2;
 
 const TEXTS: u8 = 3;
 
-// How many letters `steps`, `words` and `texts` have: the names of schedules have another number.
-const SWITCH_LETTERS: usize = 5;
+const LOGS: u8 = 4;
 
-// What is done with the schedules behind a word; as before where it is no switch.
-fn switched(word: &[u8], before: u8) -> u8 {
-    if word.len() != SWITCH_LETTERS {
-        return before;
-    }
-    if word[0] == b's' {
+// What the name of a schedule says, which is no switch.
+const NO_SWITCH: u8 = 5;
+
+// What a word says is done with the schedules behind it.
+fn switch_of(word: &[u8]) -> u8 {
+    if is_word(word, b"steps") {
         return STEPS;
     }
-    if word[0] == b'w' {
+    if is_word(word, b"words") {
         return WORDS;
     }
-    TEXTS
+    if is_word(word, b"texts") {
+        return TEXTS;
+    }
+    if is_word(word, b"logs") {
+        return LOGS;
+    }
+    NO_SWITCH
 }
 
 // Plays the schedule that a descriptor delivers.
 fn play(input: i32, mode: u8) {
     match mode {
         ENDS => end_printing::run(input),
-        STEPS => step_printing::follow(input, false),
-        WORDS => step_printing::follow(input, true),
+        STEPS => step_printing::follow(input, step_printing::FULL),
+        WORDS => step_printing::follow(input, step_printing::WORDS),
+        LOGS => step_printing::follow(input, step_printing::LOGS),
         _ => texts::respell(input),
     }
 }
 
-// Prints the schedule's name and plays it; nothing where the word is a switch.
+// Prints the schedule's name and plays it.
 fn play_named(name: &[u8], mode: u8) {
-    if name.len() == SWITCH_LETTERS {
-        return;
-    }
     io::write_all(STDOUT_FILENO, name);
     io::write_all(STDOUT_FILENO, b"\n");
     let input = os::open_read(name);
@@ -63,8 +67,12 @@ fn play_all() {
     while i < count {
         let n = os::arg(i, &mut word);
         let name = &word[..n];
-        mode = switched(name, mode);
-        play_named(name, mode);
+        let switch = switch_of(name);
+        if switch == NO_SWITCH {
+            play_named(name, mode);
+        } else {
+            mode = switch;
+        }
         i += 1;
     }
 }
