@@ -1,7 +1,6 @@
 // The commands on two logs, of sends and of receives: an entry more in one, and a comparison of both. The entries stand in numbers that the caller lends, since a session that held them would be copied with them at every line.
 use crate::sessions::Reply;
 use crate::sessions::Session;
-use crate::sessions::only_text;
 use commands::RECEIVED_ROW;
 use commands::SENT_ROW;
 use forcing::byte_at;
@@ -25,9 +24,9 @@ const FIRST_WORD: usize = 3;
 const WORDS: usize = 8;
 
 // How many numbers the entries of a log take, and those of both, the log of sends first.
-const ONE_LOG: usize = 5632;
+const ONE_LOG: usize = 512 * NUMBERS;
 
-const BOTH_LOGS: usize = 11264;
+const BOTH_LOGS: usize = 2 * ONE_LOG;
 
 // Room for the entries of both logs.
 pub fn no_entries() -> [u32; BOTH_LOGS] {
@@ -92,7 +91,10 @@ fn sent(session: Session, number: u64, named: &[u32], sends: &mut [u32], out: &m
     let end = put_noted(out, number, len);
     let mut next = session;
     next.sends = grown(sends, len, number_at(named, 0), number_at(named, 1), named);
-    only_text(next, end)
+    Reply {
+        session: next,
+        end: end,
+    }
 }
 
 // An entry more in the log of receives, whose line names the target first.
@@ -113,7 +115,10 @@ fn received(
         number_at(named, 0),
         named,
     );
-    only_text(next, end)
+    Reply {
+        session: next,
+        end: end,
+    }
 }
 
 // The words of the entry at a place of a log.
@@ -165,7 +170,10 @@ fn compare(session: Session, entries: &[u32], out: &mut [u8]) -> Reply {
     let mut next = session;
     next.sends = 0;
     next.receives = 0;
-    only_text(next, end)
+    Reply {
+        session: next,
+        end: end,
+    }
 }
 
 // The commands on the logs, whose entries stand in these numbers.

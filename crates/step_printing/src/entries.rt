@@ -42,7 +42,7 @@ fn print_received(table: Table, x: u8, store: &[u32]) {
 }
 
 // Prints both entries of a record that is a rendezvous: a step, not refused, of a thread that is about to meet its target.
-pub fn print_meeting(item: Record, answer: Answer, before: Table, after: Table, store: &[u32]) {
+pub fn print_rendezvous(item: Record, answer: Answer, before: Table, after: Table, store: &[u32]) {
     if item.kind != reading::STEP {
         return;
     }

@@ -86,7 +86,7 @@ fn follow_record(place: u64, item: Record, table: Table, store: &mut [u32], mode
     let after = returned.table;
     match mode {
         WORDS => spoken::print_spoken(place, item, answer, table, after, &old, store),
-        LOGS => entries::print_meeting(item, answer, table, after, store),
+        LOGS => entries::print_rendezvous(item, answer, table, after, store),
         _ => print_full(place, answer, after, store),
     }
     after
