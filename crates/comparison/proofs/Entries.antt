@@ -22,7 +22,7 @@ use Rattle.logs.specs.declared.Log.{Log}
 use Rattle.logs.proofs.LogEntry.{the-row as entryRow}
 use Rattle.logs.proofs.Log.{the-row}
 use Rattle.logs.specs.Comparison.{Logged, logged, entriesOf, entryAt, refused, compare, logRoom, badLog, compareRefusal, compareAnswer}
-use Rattle.comparison.specs.Columns.{Columns, noEntry, Good}
+use Rattle.comparison.specs.Entries.{Columns, noEntry, Good}
 
 -- as many as the log says
 pub entries-many : (log : Log) → length (log .entries) ≡ 512 → log .len ≤ logRoom → length (entriesOf log) ≡ log .len

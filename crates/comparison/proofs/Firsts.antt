@@ -10,7 +10,8 @@ use Rattle.model.specs.Operations.{wordLimit}
 use Rattle.logs.specs.declared.Log.{Log}
 use Rattle.logs.specs.Comparison.{Logged, logged, entriesOf, entryAt, sameMessage, firstBelow, agree, send, receive, sendDiffers, receiveUnsent, compare}
 use Rattle.agreement.proofs.Counts.{first-none, first-is}
-use Rattle.comparison.specs.Columns.{earlier, placeOfRank, Columns, noEntry, Good}
+use Rattle.columns.specs.Ranks.{earlier, placeOfRank}
+use Rattle.comparison.specs.Entries.{Columns, noEntry, Good}
 use Rattle.comparison.proofs.Entries.{entries-many, entry-read}
 use Rattle.comparison.proofs.Found.{found-none, found-mate, unsent, was-sent}
 

@@ -12,7 +12,8 @@ use Rattle.laws.proofs.Tests.{same-test}
 use Rattle.logs.specs.Comparison.{Logged, entryAt, samePair, sameMessage, countBelow, firstBelow, rank, mates, sendDiffers, receiveUnsent}
 use Rattle.agreement.proofs.Counts.{count-alike, first-alike, first-passes, first-earlier}
 use Rattle.agreement.proofs.Ranks.{pair-back, rank-of, mate-pair, mate-rank, mate-made, differs-from, differs-alone, sent-by, sent-by-none}
-use Rattle.comparison.specs.Columns.{isOf, earlier, placeOfRank, Columns}
+use Rattle.columns.specs.Ranks.{isOf, earlier, placeOfRank}
+use Rattle.comparison.specs.Entries.{Columns}
 
 -- ---- the columns of one log, and an entry of either
 module _ (log : List Logged) (senders targets : List ℕ) (columns : Columns log senders targets) (own : Logged) where

@@ -1,5 +1,4 @@
 pub mod Entries
-pub mod Places
-pub mod Messages
 pub mod Found
 pub mod Firsts
+pub mod Messages

@@ -1,11 +1,13 @@
 // The public call that compares a log of sends with a log of receives. It looks for the mate of each entry by senders and targets alone, which it reads from the logs once.
 ghost use mathlib.Core.Path.{_≡_};
 ghost use mathlib.Core.Bool.{not};
-ghost use Prim.Native.Nat.{_≤_, _<_};
+ghost use Prim.Native.Nat.{_≤_};
 ghost use lib.ListN.{length};
 ghost use Rattle.model.specs.Operations.{wordLimit};
 ghost use Rattle.logs.specs.Comparison.{logged, entriesOf, sameMessage, firstBelow, sendDiffers, saidComparison, compare, badLog, compareAnswer};
-ghost use Rattle.comparison.specs.Columns.{isOf, earlier, placeOfRank, Columns, FirstUnsent, Good};
+ghost use Rattle.comparison.specs.Entries.{Columns, FirstUnsent, Good};
+use columns::count_earlier;
+use columns::find_rank;
 use logs::Compared;
 use logs::Log;
 use logs::LogEntry;
@@ -51,50 +53,6 @@ fn read_columns(log: Log, senders: &mut [u8], targets: &mut [u8])
         targets[i] = entry.target;
         i += 1;
     }
-}
-
-// A place is of a sender and a target.
-fn is_of(senders: &[u8], targets: &[u8], s: u8, t: u8, k: usize) -> bool
-    requires { ⌜ (k < length (now senders)) × (k < length (now targets)) ⌝ }
-    ensures { λ r. ⌜ r ≡ isOf (now (senders .entry)) (now (targets .entry)) s t k ⌝ }
-{
-    (senders[k] == s) & (targets[k] == t)
-}
-
-// How many entries before a place are of a sender and a target.
-fn count_earlier(senders: &[u8], targets: &[u8], s: u8, t: u8, end: usize) -> usize
-    requires { ⌜ length (now senders) ≡ length (now targets) ⌝ }
-    requires { ⌜ end ≤ length (now senders) ⌝ }
-    ensures { λ r. ⌜ r ≡ earlier (now (senders .entry)) (now (targets .entry)) s t end ⌝ }
-{
-    let mut count: usize = 0;
-    let mut k: usize = 0;
-    while k < end {
-        if is_of(senders, targets, s, t, k) {
-            count += 1;
-        }
-        k += 1;
-    }
-    count
-}
-
-// The place of the entry of a sender, a target and a rank; the log's length where there is none.
-fn find_rank(senders: &[u8], targets: &[u8], s: u8, t: u8, rank: usize) -> usize
-    requires { ⌜ length (now senders) ≡ length (now targets) ⌝ }
-    ensures { λ r. ⌜ r ≡ placeOfRank (now (senders .entry)) (now (targets .entry)) s t rank ⌝ }
-{
-    let mut seen: usize = 0;
-    let mut k: usize = 0;
-    while k < senders.len() {
-        if is_of(senders, targets, s, t, k) {
-            if seen == rank {
-                return k;
-            }
-            seen += 1;
-        }
-        k += 1;
-    }
-    k
 }
 
 // Two entries have the same count and words.

@@ -7,7 +7,8 @@ use lib.ListN.{length, getD}
 use borrow.Author.Needs.{needs}
 use Rattle.model.proofs.Laws.{same?}
 use Rattle.logs.specs.Comparison.{Logged, receiveUnsent}
-use Rattle.comparison.specs.Columns.{earlier, placeOfRank, Columns}
+use Rattle.columns.specs.Ranks.{earlier, placeOfRank}
+use Rattle.comparison.specs.Entries.{Columns}
 use Rattle.comparison.proofs.Firsts.{by-rank, receive-unsent, receive-sent, first-here, first-nowhere}
 use Rattle.comparison.proofs.first_receive.Statement.{statement}
 use Rattle.comparison.proofs.first_receive.Tie as tie

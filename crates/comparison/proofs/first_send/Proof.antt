@@ -6,7 +6,7 @@ use lib.ListN.{length, getD}
 use borrow.Author.Needs.{needs}
 use Rattle.logs.specs.Comparison.{entriesOf, sendDiffers}
 use Rattle.model.proofs.Laws.{same?}
-use Rattle.comparison.specs.Columns.{earlier, placeOfRank}
+use Rattle.columns.specs.Ranks.{earlier, placeOfRank}
 use Rattle.comparison.proofs.Entries.{entries-whole}
 use Rattle.comparison.proofs.Firsts.{by-rank, send-alone, send-found, first-here, first-nowhere, column-few, column-small}
 use Rattle.comparison.proofs.first_send.Statement.{statement}

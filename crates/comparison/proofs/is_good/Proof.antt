@@ -5,7 +5,7 @@ use borrow.Author.Needs.{needs}
 use native.Mathlib.Omega.{arith}
 use Rattle.model.proofs.Laws.{same?}
 use Rattle.model.specs.Operations.{wordLimit}
-use Rattle.comparison.specs.Columns.{noEntry}
+use Rattle.comparison.specs.Entries.{noEntry}
 use Rattle.comparison.proofs.Entries.{too-long, too-many, not-bad, entries-whole}
 use Rattle.comparison.proofs.is_good.Statement.{statement}
 use Rattle.comparison.proofs.is_good.Tie as tie

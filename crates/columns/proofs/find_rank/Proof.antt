@@ -4,10 +4,10 @@ use Prim.Native.Nat.{_≤_, _-_}
 use native.Mathlib.Omega.{arith}
 use lib.ListN.{length}
 use borrow.Author.Needs.{needs}
-use Rattle.comparison.specs.Columns.{earlier}
-use Rattle.comparison.proofs.Places.{none-earlier, one-earlier, same-earlier, NotBefore, not-of, not-rank, place-found, place-none}
-use Rattle.comparison.proofs.find_rank.Statement.{statement}
-use Rattle.comparison.proofs.find_rank.Tie as tie
+use Rattle.columns.specs.Ranks.{earlier}
+use Rattle.columns.proofs.Places.{none-earlier, one-earlier, same-earlier, NotBefore, not-of, not-rank, place-found, place-none}
+use Rattle.columns.proofs.find_rank.Statement.{statement}
+use Rattle.columns.proofs.find_rank.Tie as tie
 
 -- those before k are counted, and none of them is of the rank
 abbrev Inv-loop : tie.InvT-loop

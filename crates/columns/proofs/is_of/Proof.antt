@@ -1,8 +1,8 @@
 use mathlib.Core.Path.{refl}
 use borrow.Author.Needs.{needs}
-use Rattle.comparison.specs.Columns.{isOf}
-use Rattle.comparison.proofs.is_of.Statement.{statement}
-use Rattle.comparison.proofs.is_of.Tie as tie
+use Rattle.columns.specs.Ranks.{isOf}
+use Rattle.columns.proofs.is_of.Statement.{statement}
+use Rattle.columns.proofs.is_of.Tie as tie
 
 returns : tie.Need-returns
 unfolding isOf

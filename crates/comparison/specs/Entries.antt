@@ -1,26 +1,12 @@
--- The senders and targets of a log's entries, as two columns of numbers, and what is looked for in them.
+-- A log that is not refused, and the columns of its entries.
 use mathlib.Core.Path.{_≡_}
-use mathlib.Core.Bool.{Bool, _&&_}
 use mathlib.Core.List.{List, []}
 use Prim.Native.Nat.{ℕ, _≤_, _<_}
 use lib.ListN.{length, getD}
-use lib.Dec.{eqb}
 use Rattle.model.specs.Operations.{wordLimit}
 use Rattle.logs.specs.declared.LogEntry.{LogEntry}
 use Rattle.logs.specs.declared.Log.{Log}
-use Rattle.logs.specs.Comparison.{Logged, entryAt, countBelow, firstBelow, receiveUnsent, logRoom}
-
--- place k of the columns is of sender s and target t
-unfoldable pub isOf : List ℕ → List ℕ → ℕ → ℕ → ℕ → Bool
-isOf senders targets s t k = eqb (getD senders k 0) s && eqb (getD targets k 0) t
-
--- how many places before k are
-unfoldable pub earlier : List ℕ → List ℕ → ℕ → ℕ → ℕ → ℕ
-earlier senders targets s t k = countBelow k (isOf senders targets s t)
-
--- the place that is, with so many before it; the columns' length where there is none
-unfoldable pub placeOfRank : List ℕ → List ℕ → ℕ → ℕ → ℕ → ℕ
-placeOfRank senders targets s t rank = firstBelow (length senders) (λ k. isOf senders targets s t k && eqb (earlier senders targets s t k) rank)
+use Rattle.logs.specs.Comparison.{Logged, entryAt, firstBelow, receiveUnsent, logRoom}
 
 -- the columns of some entries
 pub record Columns (entries : List Logged) (senders targets : List ℕ) : Type 0 where

@@ -3,10 +3,10 @@ use mathlib.Core.Logic.{inl, inr}
 use Prim.Native.Nat.{_≤_, _-_}
 use native.Mathlib.Omega.{arith}
 use borrow.Author.Needs.{needs}
-use Rattle.comparison.specs.Columns.{earlier}
-use Rattle.comparison.proofs.Places.{none-earlier, one-earlier, same-earlier}
-use Rattle.comparison.proofs.count_earlier.Statement.{statement}
-use Rattle.comparison.proofs.count_earlier.Tie as tie
+use Rattle.columns.specs.Ranks.{earlier}
+use Rattle.columns.proofs.Places.{none-earlier, one-earlier, same-earlier}
+use Rattle.columns.proofs.count_earlier.Statement.{statement}
+use Rattle.columns.proofs.count_earlier.Tie as tie
 
 -- those before k are counted
 abbrev Inv-loop : tie.InvT-loop

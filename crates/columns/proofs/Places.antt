@@ -13,7 +13,7 @@ use Rattle.model.specs.Lists.{bit}
 use Rattle.model.proofs.Laws.{same?, and-made}
 use Rattle.logs.specs.Comparison.{countBelow}
 use Rattle.agreement.proofs.Counts.{count-next, first-none, first-is}
-use Rattle.comparison.specs.Columns.{isOf, earlier, placeOfRank}
+use Rattle.columns.specs.Ranks.{isOf, earlier, placeOfRank}
 
 module _ (senders targets : List ℕ) (s t : ℕ) where
   -- none before the first
