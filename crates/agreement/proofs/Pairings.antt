@@ -8,10 +8,11 @@ use lib.Dec.{eqb, ltb}
 use lib.ListN.{length}
 use borrow.Author.Tests.{eq-eqb, eqb-true, le-ltb, ltb-true, ltb-false}
 use Rattle.model.specs.Lists.{sameNumbers}
+use Rattle.model.specs.Refusals.{unless}
 use Rattle.model.proofs.Laws.{by, same?, and-left, and-right, and-made}
 use Rattle.laws.proofs.Lists.{cond-true, cond-false}
 use Rattle.laws.proofs.Same.{same-itself, same-read}
-use Rattle.logs.specs.Comparison.{Logged, entryAt, samePair, sameMessage, countBelow, firstBelow, rank, mates, SaidComparison, refused, agree, send, receive, sendDiffers, receiveUnsent, compare, Pairing, AgreeIfPaired}
+use Rattle.logs.specs.Comparison.{Logged, entriesOf, entryAt, samePair, sameMessage, countBelow, firstBelow, rank, mates, SaidComparison, refused, agree, send, receive, sendDiffers, receiveUnsent, compare, compareAnswer, Pairing, AgreeIfPaired}
 use Rattle.agreement.proofs.Counts.{fewer, first-none, first-passes, first-earlier, first-there}
 use Rattle.agreement.proofs.Ranks.{pair-read, pair-made, pair-back, pair-on, rank-grows, mate-pair, mate-rank, mate-made, one-receive, one-send, differs-from, sent-by}
 
@@ -173,4 +174,5 @@ agree-paired sends receives same = by (ltb (firstBelow (length sends) (sendDiffe
 
 -- "They agree if there is a one-to-one pairing ..", and only then
 pub agree-if-paired : AgreeIfPaired
-agree-if-paired sends receives = (agree-paired sends receives, paired-agree sends receives)
+unfolding compareAnswer unless
+agree-if-paired sends receives accepted = rw accepted (agree-paired (entriesOf sends) (entriesOf receives), paired-agree (entriesOf sends) (entriesOf receives))

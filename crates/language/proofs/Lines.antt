@@ -216,8 +216,8 @@ pub many-words : commandOf (ascii "begin 0 send 1 15" ++ concat (replicate 300 (
 unfolding computing
 many-words = refl
 
--- every word of an entry is read, to any number that a line can have
-pub many-sent : commandOf (ascii "sent 0 1" ++ concat (replicate 2043 (ascii " 7"))) ≡ asked 20 (0 ∷ 1 ∷ replicate 2043 7) noOperation
+-- every word of an entry is read: 264 words are not 8
+pub many-sent : commandOf (ascii "sent 0 1" ++ concat (replicate 264 (ascii " 7"))) ≡ asked 20 (0 ∷ 1 ∷ replicate 264 7) noOperation
 unfolding computing
 many-sent = refl
 

@@ -115,6 +115,8 @@ pub record Pairing (sends receives : List Logged) : Type 0 where
   pub equal : (i : ℕ) → i < length sends → entryAt sends i ≡ entryAt receives (to i)
   pub order : (i k : ℕ) → i < k → k < length sends → samePair (entryAt sends i) (entryAt sends k) ≡ true → to i < to k
 
--- "They agree if there is a one-to-one pairing ..", and only then
+-- "They agree if there is a one-to-one pairing ..", and only then: of logs that are not refused
 abbrev pub AgreeIfPaired : Type 0
-AgreeIfPaired = (sends receives : List Logged) → (compare sends receives ≡ agree → Pairing sends receives) × (Pairing sends receives → compare sends receives ≡ agree)
+AgreeIfPaired =
+    (sends receives : Log) → compareRefusal sends receives ≡ 0
+    → (compareAnswer sends receives ≡ agree → Pairing (entriesOf sends) (entriesOf receives)) × (Pairing (entriesOf sends) (entriesOf receives) → compareAnswer sends receives ≡ agree)
