@@ -1,4 +1,4 @@
-// The public call that compares a log of sends with a log of receives. It looks for the mate of each entry by senders and targets alone, which it reads from the logs once.
+// The public call that compares a log of sends with a log of receives. The entry of the other log with the same sender, target and rank is looked for in columns of senders and targets, which are read from the logs once.
 ghost use mathlib.Core.Path.{_≡_};
 ghost use mathlib.Core.Bool.{not};
 ghost use Prim.Native.Nat.{_≤_};
