@@ -3,14 +3,9 @@
 # What a comparison of two logs costs, by their length, of eight words an entry: the console notes both logs and compares them, 100 times and, where they are shorter, more often, and does the same with a first entry of nine words,
 # which is refused before anything is compared; the difference is a comparison. The same logs in C (compare.c). RUNS times each (11), in turn. Printed: processor time, by the lowest of each.
 set -eu
-here=$(cd "$(dirname "$0")" && pwd)
-console=${1:-$here/../target/bin/console}
-[ -x "$console" ] || { echo "compare: no program $console; 'rt check console' builds it" >&2; exit 2; }
-runs=${RUNS:-11}
-work=$(mktemp -d)
-trap 'rm -rf "$work"' EXIT
+rounds=11
+. "$(dirname "$0")/console.sh"
 gcc -std=gnu11 -O2 -o "$work/compare" "$here/compare.c"
-gcc -std=gnu11 -O2 -o "$work/timerun" "$here/timerun.c"
 
 # logs of N entries that agree: of one sender and target, or of 40, the receives in another order
 logs() {

@@ -3,14 +3,9 @@
 # What a count costs: four threads, ten steps, 1,048,576 lists, ten times in the console and ten times in C (count.c) with four thread records and with thirty-two, in turn,
 # RUNS times each (11). Printed: the median processor time a count, and the median over the rounds of the ratio console/C of the same round, with the lowest and highest.
 set -eu
-here=$(cd "$(dirname "$0")" && pwd)
-console=${1:-$here/../target/bin/console}
-[ -x "$console" ] || { echo "count: no program $console; 'rt check console' builds it" >&2; exit 2; }
-runs=${RUNS:-11}
-work=$(mktemp -d)
-trap 'rm -rf "$work"' EXIT
+rounds=11
+. "$(dirname "$0")/console.sh"
 for t in 4 32; do gcc -std=gnu11 -O2 -DT=$t -o "$work/c$t" "$here/count.c"; done
-gcc -std=gnu11 -O2 -o "$work/timerun" "$here/timerun.c"
 
 {
     echo "table 4"

@@ -3,14 +3,9 @@
 # What a public step costs with rules loaded: the console makes 600,000 steps of an idle thread of 32, without rules and with three sets of rules, in turn, RUNS
 # times each (5). Printed: the median processor time a step; what the rules add to that without; and what the same check takes in C (rules.c), in the same run.
 set -eu
-here=$(cd "$(dirname "$0")" && pwd)
-console=${1:-$here/../target/bin/console}
-[ -x "$console" ] || { echo "rules: no program $console; 'rt check console' builds it" >&2; exit 2; }
-runs=${RUNS:-5}
-work=$(mktemp -d)
-trap 'rm -rf "$work"' EXIT
+rounds=5
+. "$(dirname "$0")/console.sh"
 gcc -std=gnu11 -O2 -o "$work/rules" "$here/rules.c"
-gcc -std=gnu11 -O2 -o "$work/timerun" "$here/timerun.c"
 
 # rows as F T G H, a line each: none; one for all pairs; two for each sender; one for each target, and as many that hold no pair
 : > "$work/none"

@@ -10,24 +10,20 @@ use Rattle.model.specs.Operations.{wordLimit}
 use Rattle.logs.specs.declared.Log.{Log}
 use Rattle.logs.specs.Comparison.{Logged, logged, entriesOf, entryAt, sameMessage, firstBelow, agree, send, receive, sendDiffers, receiveUnsent, compare}
 use Rattle.agreement.proofs.Counts.{first-none, first-is}
-use Rattle.columns.specs.Ranks.{earlier, placeOfRank}
+use Rattle.columns.specs.Ranks.{mateOf}
 use Rattle.comparison.specs.Entries.{Columns, noEntry, Good}
 use Rattle.comparison.proofs.Entries.{entries-many, entry-read}
 use Rattle.comparison.proofs.Found.{found-none, found-mate, unsent, was-sent}
 
--- what is found by a rank is found by what the rank is
-pub by-rank : (senders targets : List ℕ) (s t r k j : ℕ) → j ≡ placeOfRank senders targets s t r → r ≡ k → j ≡ placeOfRank senders targets s t k
-by-rank senders targets s t r k j found rank = found ∙ ap (placeOfRank senders targets s t) rank
-
 module _ (sends receives : Log) (senders targets sources receivers : List ℕ) (sent : Columns (entriesOf sends) senders targets) (received : Columns (entriesOf receives) sources receivers) where
   -- send i finds no receive of its rank
-  pub send-alone : (i j : ℕ) → i < length senders → j ≡ placeOfRank sources receivers (getD senders i 0) (getD targets i 0) (earlier senders targets (getD senders i 0) (getD targets i 0) i)
+  pub send-alone : (i j : ℕ) → i < length senders → j ≡ mateOf senders targets i sources receivers
       → length sources ≤ j → sendDiffers (entriesOf sends) (entriesOf receives) i ≡ true
   send-alone i j low found past = found-none _ _ senders targets sources receivers sent received i (omega (arith, sent .many)) (omega (arith, received .many, found))
 
   -- it finds receive j
   pub send-found : length (sends .entries) ≡ 512 → length (receives .entries) ≡ 512 → Good sends → Good receives
-      → (i j : ℕ) → i < length senders → j ≡ placeOfRank sources receivers (getD senders i 0) (getD targets i 0) (earlier senders targets (getD senders i 0) (getD targets i 0) i)
+      → (i j : ℕ) → i < length senders → j ≡ mateOf senders targets i sources receivers
       → j < length sources → sendDiffers (entriesOf sends) (entriesOf receives) i ≡ not (sameMessage (logged (getD (sends .entries) i noEntry)) (logged (getD (receives .entries) j noEntry)))
   send-found whole all good fits i j low found there =
       found-mate _ _ senders targets sources receivers sent received i (omega (arith, sent .many)) (omega (arith, received .many, found))
@@ -53,12 +49,12 @@ column-small log senders targets whole good columns i low = good .small i (omega
 
 module _ (sends receives : List Logged) (senders targets sources receivers : List ℕ) (sent : Columns sends senders targets) (received : Columns receives sources receivers) where
   -- receive j finds no send of its rank
-  pub receive-unsent : (j i : ℕ) → j < length sources → i ≡ placeOfRank senders targets (getD sources j 0) (getD receivers j 0) (earlier sources receivers (getD sources j 0) (getD receivers j 0) j)
+  pub receive-unsent : (j i : ℕ) → j < length sources → i ≡ mateOf sources receivers j senders targets
       → length senders ≤ i → receiveUnsent sends receives j ≡ true
   receive-unsent j i low found past = unsent sends receives senders targets sources receivers sent received j (omega (arith, received .many)) (omega (arith, sent .many, found))
 
   -- it finds one
-  pub receive-sent : (j i : ℕ) → j < length sources → i ≡ placeOfRank senders targets (getD sources j 0) (getD receivers j 0) (earlier sources receivers (getD sources j 0) (getD receivers j 0) j)
+  pub receive-sent : (j i : ℕ) → j < length sources → i ≡ mateOf sources receivers j senders targets
       → i < length senders → receiveUnsent sends receives j ≡ false
   receive-sent j i low found there = was-sent sends receives senders targets sources receivers sent received j (omega (arith, received .many)) (omega (arith, sent .many, found))
 

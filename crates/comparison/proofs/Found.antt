@@ -4,7 +4,7 @@ use mathlib.Core.Bool.{true, false, not, _&&_}
 use mathlib.Core.List.{List}
 use Prim.Native.Nat.{ℕ, _≤_, _<_}
 use native.Mathlib.Omega.{arith}
-use lib.ListN.{length, getD}
+use lib.ListN.{length}
 use lib.Dec.{eqb}
 use borrow.Author.Tests.{eq-eqb, eqb-true}
 use Rattle.model.proofs.Laws.{by, and-left, and-right}
@@ -12,7 +12,7 @@ use Rattle.laws.proofs.Tests.{same-test}
 use Rattle.logs.specs.Comparison.{Logged, entryAt, samePair, sameMessage, countBelow, firstBelow, rank, mates, sendDiffers, receiveUnsent}
 use Rattle.agreement.proofs.Counts.{count-alike, first-alike, first-passes, first-earlier}
 use Rattle.agreement.proofs.Ranks.{pair-back, rank-of, mate-pair, mate-rank, mate-made, differs-from, differs-alone, sent-by, sent-by-none}
-use Rattle.columns.specs.Ranks.{isOf, earlier, placeOfRank}
+use Rattle.columns.specs.Ranks.{isOf, earlier, placeOfRank, mateOf}
 use Rattle.comparison.specs.Entries.{Columns}
 
 -- ---- the columns of one log, and an entry of either
@@ -40,12 +40,9 @@ module _ (log : List Logged) (senders targets : List ℕ) (columns : Columns log
 
 -- ---- both logs
 module _ (sends receives : List Logged) (senders targets sources receivers : List ℕ) (sent : Columns sends senders targets) (received : Columns receives sources receivers) where
-  -- the place of the receive of a send's rank
-  abbrev pub mateOf : ℕ → ℕ
-  mateOf i = let s = getD senders i 0 in let t = getD targets i 0 in placeOfRank sources receivers s t (earlier senders targets s t i)
-
-  mate-found : (i : ℕ) → i < length sends → mateOf i ≡ firstBelow (length receives) (mates sends receives i)
-  unfolding rank
+  -- the receive of a send's rank
+  mate-found : (i : ℕ) → i < length sends → mateOf senders targets i sources receivers ≡ firstBelow (length receives) (mates sends receives i)
+  unfolding rank mateOf
   mate-found i l =
       let own = entryAt sends i in
       rw (sent .sender i l, sent .target i l, earlier-of sends senders targets sent own i (omega arith)) (rank-found receives sources receivers received own (rank sends i)
@@ -54,27 +51,24 @@ module _ (sends receives : List Logged) (senders targets sources receivers : Lis
       (λ e. rw (pair-back own (entryAt receives k) (mate-pair sends receives i k e)) (eq-eqb _ _ (sym (mate-rank sends receives i k e))))))
 
   -- no receive is found: the send differs
-  pub found-none : (i : ℕ) → i < length sends → length receives ≤ mateOf i → sendDiffers sends receives i ≡ true
+  pub found-none : (i : ℕ) → i < length sends → length receives ≤ mateOf senders targets i sources receivers → sendDiffers sends receives i ≡ true
   found-none i l none = differs-alone sends receives i (λ j h. first-earlier (length receives) (mates sends receives i) j h (omega (arith, mate-found i l)))
 
   -- one is found: it decides
-  pub found-mate : (i : ℕ) → i < length sends → mateOf i < length receives → sendDiffers sends receives i ≡ not (sameMessage (entryAt sends i) (entryAt receives (mateOf i)))
-  found-mate i l low = differs-from sends receives i (mateOf i) low (rw (mate-found i l) (first-passes (length receives) (mates sends receives i) (omega (arith, mate-found i l))))
+  pub found-mate : (i : ℕ) → i < length sends → mateOf senders targets i sources receivers < length receives → sendDiffers sends receives i ≡ not (sameMessage (entryAt sends i) (entryAt receives (mateOf senders targets i sources receivers)))
+  found-mate i l low = differs-from sends receives i (mateOf senders targets i sources receivers) low (rw (mate-found i l) (first-passes (length receives) (mates sends receives i) (omega (arith, mate-found i l))))
 
-  -- the place of the send of a receive's rank
-  abbrev pub senderOf : ℕ → ℕ
-  senderOf j = let s = getD sources j 0 in let t = getD receivers j 0 in placeOfRank senders targets s t (earlier sources receivers s t j)
-
-  sender-found : (j : ℕ) → j < length receives → senderOf j ≡ firstBelow (length sends) (λ i. mates sends receives i j)
-  unfolding rank mates
+  -- the send of a receive's rank
+  sender-found : (j : ℕ) → j < length receives → mateOf sources receivers j senders targets ≡ firstBelow (length sends) (λ i. mates sends receives i j)
+  unfolding rank mates mateOf
   sender-found j l =
       let own = entryAt receives j in
       rw (received .sender j l, received .target j l, earlier-of receives sources receivers received own j (omega arith)) (rank-found sends senders targets sent own (rank receives j))
 
   -- no send is found: the receive was not sent
-  pub unsent : (j : ℕ) → j < length receives → length sends ≤ senderOf j → receiveUnsent sends receives j ≡ true
+  pub unsent : (j : ℕ) → j < length receives → length sends ≤ mateOf sources receivers j senders targets → receiveUnsent sends receives j ≡ true
   unsent j l none = sent-by-none sends receives j (λ i h. first-earlier (length sends) (λ m. mates sends receives m j) i h (omega (arith, sender-found j l)))
 
   -- one is found
-  pub was-sent : (j : ℕ) → j < length receives → senderOf j < length sends → receiveUnsent sends receives j ≡ false
-  was-sent j l low = sent-by sends receives (senderOf j) j low (rw (sender-found j l) (first-passes (length sends) (λ m. mates sends receives m j) (omega (arith, sender-found j l))))
+  pub was-sent : (j : ℕ) → j < length receives → mateOf sources receivers j senders targets < length sends → receiveUnsent sends receives j ≡ false
+  was-sent j l low = sent-by sends receives (mateOf sources receivers j senders targets) j low (rw (sender-found j l) (first-passes (length sends) (λ m. mates sends receives m j) (omega (arith, sender-found j l))))

@@ -6,8 +6,7 @@ ghost use lib.ListN.{length};
 ghost use Rattle.model.specs.Operations.{wordLimit};
 ghost use Rattle.logs.specs.Comparison.{logged, entriesOf, sameMessage, firstBelow, sendDiffers, saidComparison, compare, badLog, compareAnswer};
 ghost use Rattle.comparison.specs.Entries.{Columns, FirstUnsent, Good};
-use columns::count_earlier;
-use columns::find_rank;
+use columns::find_mate;
 use logs::Compared;
 use logs::Log;
 use logs::LogEntry;
@@ -91,10 +90,7 @@ fn first_send(
 {
     let mut i: usize = 0;
     while i < senders.len() {
-        let s = senders[i];
-        let t = targets[i];
-        let rank = count_earlier(senders, targets, s, t, i);
-        let j = find_rank(sources, receivers, s, t, rank);
+        let j = find_mate(senders, targets, i, sources, receivers);
         if sources.len() <= j {
             return i;
         }
@@ -116,10 +112,7 @@ fn first_receive(senders: &[u8], targets: &[u8], sources: &[u8], receivers: &[u8
 {
     let mut j: usize = 0;
     while j < sources.len() {
-        let s = sources[j];
-        let t = receivers[j];
-        let rank = count_earlier(sources, receivers, s, t, j);
-        let i = find_rank(senders, targets, s, t, rank);
+        let i = find_mate(sources, receivers, j, senders, targets);
         if senders.len() <= i {
             return j;
         }

@@ -41,7 +41,7 @@ fn print_received(table: Table, x: u8, store: &[u32]) {
     }
 }
 
-// Prints both entries of a record that is a rendezvous: a step, not refused, of a thread that is about to meet its target.
+// Prints both entries of a record that is a rendezvous: a step, not refused, that finishes a copy.
 pub fn print_rendezvous(item: Record, answer: Answer, before: Table, after: Table, store: &[u32]) {
     if item.kind != reading::STEP {
         return;
@@ -56,7 +56,7 @@ pub fn print_rendezvous(item: Record, answer: Answer, before: Table, after: Tabl
         return;
     }
     let own = before.threads[i];
-    if recording::meets(own) {
+    if recording::is_rendezvous(own) {
         let op = own.op;
         let send = op.send;
         print_sent(x, send);

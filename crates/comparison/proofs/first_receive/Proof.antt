@@ -3,13 +3,12 @@ use mathlib.Core.List.{List}
 use mathlib.Core.Path.{_≡_}
 use Prim.Native.Nat.{ℕ, _≤_, _<_, _-_}
 use native.Mathlib.Omega.{arith}
-use lib.ListN.{length, getD}
+use lib.ListN.{length}
 use borrow.Author.Needs.{needs}
 use Rattle.model.proofs.Laws.{same?}
 use Rattle.logs.specs.Comparison.{Logged, receiveUnsent}
-use Rattle.columns.specs.Ranks.{earlier, placeOfRank}
 use Rattle.comparison.specs.Entries.{Columns}
-use Rattle.comparison.proofs.Firsts.{by-rank, receive-unsent, receive-sent, first-here, first-nowhere}
+use Rattle.comparison.proofs.Firsts.{receive-unsent, receive-sent, first-here, first-nowhere}
 use Rattle.comparison.proofs.first_receive.Statement.{statement}
 use Rattle.comparison.proofs.first_receive.Tie as tie
 
@@ -24,16 +23,10 @@ abbrev μ-loop : tie.MeasureT-loop
 
 -- the send of its rank is looked for: the way back to the top of the loop
 abbrev Found : Type 0
-Found = tie.After-find-rank Inv-loop μ-loop
+Found = tie.After-find-mate Inv-loop μ-loop
 
 abbrev top : Found → tie.At-loop Inv-loop μ-loop
-top f = f .before .before .before .before .before
-
--- where it was found, by the ranks that both functions count
-found : (f : Found) → let p = top f in let args = p .before .before .before .before .before .args in
-    f .find-rank .result ≡ placeOfRank (args .senders .now) (args .targets .now) (getD (args .sources .now) (p .loop .j) 0) (getD (args .receivers .now) (p .loop .j) 0)
-    (earlier (args .sources .now) (args .receivers .now) (getD (args .sources .now) (p .loop .j) 0) (getD (args .receivers .now) (p .loop .j) 0) (p .loop .j))
-found f = by-rank _ _ _ _ _ _ _ (f .find-rank .ensures) (f .before .count-earlier .ensures)
+top f = f .before .before
 
 loop-holds : tie.Need-loop-holds Inv-loop μ-loop
 loop-holds c = (search needs, λ sends receives sent received k l. absurd (omega arith))
@@ -42,14 +35,14 @@ loop-holds c = (search needs, λ sends receives sent received k l. absurd (omega
 returns : tie.Need-returns Inv-loop μ-loop
 returns c sends receives sent received =
     let turn = top (c .before) in
-    first-here _ _ _ (turn .loop .j) (received .many) (search needs) (receive-unsent _ _ _ _ _ _ sent received (turn .loop .j) _ (search needs) (found (c .before)) (c .if1 .taken)) (turn .loop .inv .1 sends receives sent received)
+    first-here _ _ _ (turn .loop .j) (received .many) (search needs) (receive-unsent _ _ _ _ _ _ sent received (turn .loop .j) _ (search needs) (c .before .find-mate .ensures) (c .if1 .taken)) (turn .loop .inv .1 sends receives sent received)
 
 loop-again : tie.Need-loop-again Inv-loop μ-loop
 loop-again c =
     let turn = top (c .before) in (
       search needs,
       λ sends receives sent received k l. same? k (turn .loop .j)
-          (λ e. rw e (receive-sent _ _ _ _ _ _ sent received (turn .loop .j) _ (search needs) (found (c .before)) (search needs)))
+          (λ e. rw e (receive-sent _ _ _ _ _ _ sent received (turn .loop .j) _ (search needs) (c .before .find-mate .ensures) (search needs)))
           (λ d. turn .loop .inv .1 sends receives sent received k (omega arith)),
     )
 
@@ -64,9 +57,6 @@ first-receive-spec =
     Inv-loop
     μ-loop
     loop-holds
-    (λ c. search needs)
-    (λ c. search needs)
-    (λ c κs. search needs)
     (λ c κs. search needs)
     returns
     (λ c. search needs)

@@ -2,13 +2,12 @@ use mathlib.Core.Bool.{false, not}
 use mathlib.Core.Path.{_≡_, sym, ap, _∙_}
 use Prim.Native.Nat.{ℕ, _≤_, _<_, _-_}
 use native.Mathlib.Omega.{arith}
-use lib.ListN.{length, getD}
+use lib.ListN.{length}
 use borrow.Author.Needs.{needs}
 use Rattle.logs.specs.Comparison.{entriesOf, sendDiffers}
 use Rattle.model.proofs.Laws.{same?}
-use Rattle.columns.specs.Ranks.{earlier, placeOfRank}
 use Rattle.comparison.proofs.Entries.{entries-whole}
-use Rattle.comparison.proofs.Firsts.{by-rank, send-alone, send-found, first-here, first-nowhere, column-few, column-small}
+use Rattle.comparison.proofs.Firsts.{send-alone, send-found, first-here, first-nowhere, column-few, column-small}
 use Rattle.comparison.proofs.first_send.Statement.{statement}
 use Rattle.comparison.proofs.first_send.Tie as tie
 
@@ -23,18 +22,12 @@ abbrev μ-loop : tie.MeasureT-loop
 μ-loop senders targets sources receivers sends receives i₀ i = length senders - i
 
 -- ---- places
--- the receive of its rank is looked for: the ways back to the top of the loop, and to the start
+-- the receive of its rank is looked for: the way back to the top of the loop
 abbrev Found : Type 0
-Found = tie.After-find-rank Inv-loop μ-loop
+Found = tie.After-find-mate Inv-loop μ-loop
 
 abbrev top : Found → tie.At-loop Inv-loop μ-loop
-top f = f .before .before .before .before .before
-
--- where it was found, by the ranks that both functions count
-found : (f : Found) → let p = top f in let args = p .before .before .before .before .before .args in
-    f .find-rank .result ≡ placeOfRank (args .sources .now) (args .receivers .now) (getD (args .senders .now) (p .loop .i) 0) (getD (args .targets .now) (p .loop .i) 0)
-    (earlier (args .senders .now) (args .targets .now) (getD (args .senders .now) (p .loop .i) 0) (getD (args .targets .now) (p .loop .i) 0) (p .loop .i))
-found f = by-rank _ _ _ _ _ _ _ (f .find-rank .ensures) (f .before .count-earlier .ensures)
+top f = f .before .before
 
 -- both messages are compared, and this decides
 abbrev Compared : Type 0
@@ -46,7 +39,7 @@ decided m =
     let f = m .before .before .before .before in
     let turn = top f in
     let pre = turn .before .before .before .before .before .pre in
-    send-found _ _ _ _ _ _ (pre .1 .1 .0) (pre .1 .1 .1) (turn .loop .inv .1) (turn .loop .inv .2) (pre .0) (pre .1 .0) (turn .loop .i) _ (search needs) (found f) (search needs) ∙ ap not (sym (m .same-message .ensures))
+    send-found _ _ _ _ _ _ (pre .1 .1 .0) (pre .1 .1 .1) (turn .loop .inv .1) (turn .loop .inv .2) (pre .0) (pre .1 .0) (turn .loop .i) _ (search needs) (f .find-mate .ensures) (search needs) ∙ ap not (sym (m .same-message .ensures))
 
 -- ---- the needs
 loop-holds : tie.Need-loop-holds Inv-loop μ-loop
@@ -60,19 +53,13 @@ loop-holds c =
     let received = pre .1 .1 .1 in
     (λ k l. absurd (omega arith), whole, all, search needs, column-few (args .t1) _ _ whole (pre .0) sent, sent .many ∙ sym (sent .asMany), column-few (args .t2) _ _ all (pre .1 .0) received, received .many ∙ sym (received .asMany))
 
-count-earlier-requires : tie.Need-count-earlier-requires Inv-loop μ-loop
-count-earlier-requires c κs = search needs
-
-find-rank-requires : tie.Need-find-rank-requires Inv-loop μ-loop
-find-rank-requires c κs = search needs
-
 -- it has none
 returns : tie.Need-returns Inv-loop μ-loop
 returns c =
     let turn = top (c .before) in
     let start = turn .before .before .before .before .before in
     let pre = start .pre in
-    first-here _ _ _ (turn .loop .i) (pre .1 .1 .0 .many) (search needs) (send-alone _ _ _ _ _ _ (pre .1 .1 .0) (pre .1 .1 .1) (turn .loop .i) _ (search needs) (found (c .before)) (c .if1 .taken)) (turn .loop .inv .0)
+    first-here _ _ _ (turn .loop .i) (pre .1 .1 .0 .many) (search needs) (send-alone _ _ _ _ _ _ (pre .1 .1 .0) (pre .1 .1 .1) (turn .loop .i) _ (search needs) (c .before .find-mate .ensures) (c .if1 .taken)) (turn .loop .inv .0)
 
 element-copy-out-sent : tie.Need-element-copy-out-sent Inv-loop μ-loop
 element-copy-out-sent c = search needs
@@ -86,7 +73,7 @@ same-message-requires c κs =
     let turn = top f in
     let start = turn .before .before .before .before .before in
     let pre = start .pre in
-    (column-small (start .args .t1) _ _ (turn .loop .inv .1) (pre .0) (pre .1 .1 .0) (turn .loop .i) (search needs), column-small (start .args .t2) _ _ (turn .loop .inv .2) (pre .1 .0) (pre .1 .1 .1) (f .find-rank .result) (search needs))
+    (column-small (start .args .t1) _ _ (turn .loop .inv .1) (pre .0) (pre .1 .1 .0) (turn .loop .i) (search needs), column-small (start .args .t2) _ _ (turn .loop .inv .2) (pre .1 .0) (pre .1 .1 .1) (f .find-mate .result) (search needs))
 
 -- it differs
 returns-2 : tie.Need-returns-2 Inv-loop μ-loop
@@ -113,10 +100,7 @@ first-send-spec =
     Inv-loop
     μ-loop
     loop-holds
-    (λ c. search needs)
-    (λ c. search needs)
-    count-earlier-requires
-    find-rank-requires
+    (λ c κs. search needs)
     returns
     (λ c. search needs)
     element-copy-out-sent
