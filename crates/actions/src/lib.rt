@@ -1,4 +1,7 @@
 // The actions of a step: each takes the stepped thread and the other one, and tells what it sets of them or what it ends.
+
+#![tactic(auto)]
+
 ghost use Rattle.std.specs.Prelude.{◌≡◌, ℕ, ◌<◌, length, get_or, set};
 ghost use Rattle.std.proofs.Math.Option.{some};
 ghost use Rattle.model.specs.Answers.{Reply, said, replied};
@@ -9,7 +12,7 @@ ghost use Rattle.actions.specs.Acted.{keeping as Acted·keeping, own_changed, ot
 use model::{Answer, Thread};
 
 // What a step ends: nothing, or a send part or a receive part with its reason.
-#[derive(Drop)]
+#[derive(Clone, Copy)]
 pub enum Ending {
     Nothing,
     SendCancelled,
@@ -22,7 +25,7 @@ pub enum Ending {
 
 // The answer of a step and what it sets: poll, phase, copied and waking of its own thread, owner and poll of the other one.
 // A step that ends something sets more than that, and end_threads does it.
-#[derive(Drop)]
+#[derive(Clone, Copy)]
 pub struct Change {
     pub answer: Answer,
     pub ending: Ending,

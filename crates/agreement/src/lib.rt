@@ -1,1 +1,3 @@
 // No code: theorems about two logs, and when they agree.
+
+#![tactic(auto)]

@@ -1,4 +1,7 @@
 // A begin on the thread that begins and on the one whose queue it joins.
+
+#![tactic(auto)]
+
 ghost use Rattle.std.specs.Prelude.{◌≡◌, true, ◌<◌};
 ghost use Rattle.model.specs.Operations.{first_time};
 ghost use Rattle.model.specs.Phases.{Phase, phase_number};

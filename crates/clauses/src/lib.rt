@@ -1,4 +1,7 @@
 // Tests of one thread by itself, and whom it sends to, copies to and locks: each returns what a definition says.
+
+#![tactic(auto)]
+
 ghost use Rattle.std.specs.Prelude.{◌≡◌};
 ghost use Rattle.model.specs.Codes.{codes};
 ghost use Rattle.model.specs.Locks.{lock_held};

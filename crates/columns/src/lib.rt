@@ -1,4 +1,7 @@
 // Senders and targets in two columns, a place for each entry of a log: which entry of the other log has the sender, the target and the rank of one.
+
+#![tactic(auto)]
+
 ghost use Rattle.std.specs.Prelude.{◌≡◌, ◌≤◌, ◌<◌, length};
 ghost use Rattle.columns.specs.Ranks.{is_of, earlier, place_of_rank, mate_of};
 

@@ -1,4 +1,7 @@
 // Which command a line is: the row of the grammar, the numbers, and the operation that its words spell; or why it is none.
+
+#![tactic(auto)]
+
 ghost use Rattle.std.specs.Prelude.{◌≡◌, ℕ, ◌+◌, ◌≤◌, ◌<◌, List, length, take, drop};
 ghost use Rattle.language.specs.Words.{words};
 ghost use Rattle.scanning.specs.Scanned.{between};
@@ -129,7 +132,7 @@ pub fn no_numbers() -> [u32; ROOM]
 }
 
 // What a line asks for: nothing, or a row with its numbers, as many as count, and its operation; or why it is no command, and which word is wrong.
-#[derive(Drop)]
+#[derive(Clone, Copy)]
 pub struct Parsed {
     pub reason: u8,
     pub start: usize,
@@ -140,7 +143,7 @@ pub struct Parsed {
 }
 
 // How far a line is read: up to which place, and how many numbers were read; or why not, and which word is wrong.
-#[derive(Drop)]
+#[derive(Clone, Copy)]
 pub struct Cursor {
     pub reason: u8,
     pub start: usize,
@@ -150,7 +153,7 @@ pub struct Cursor {
 }
 
 // The operation that words spell; or why they spell none, and which word is wrong.
-#[derive(Drop)]
+#[derive(Clone, Copy)]
 pub struct Parts {
     pub reason: u8,
     pub start: usize,

@@ -1,4 +1,7 @@
 // Whether two tables are the same, and two queues and two outcomes.
+
+#![tactic(auto)]
+
 use model::{Operation, Outcome, Queue, Range, Receive, Rules, SendPart, Table, Thread};
 
 // The same eight words.

@@ -1,4 +1,7 @@
 // The public call that compares a log of sends with a log of receives. The entry of the other log with the same sender, target and rank is looked for in columns of senders and targets, which are read from the logs once.
+
+#![tactic(auto)]
+
 ghost use Rattle.std.specs.Prelude.{◌≡◌, not, ◌≤◌, length};
 ghost use Rattle.model.specs.Operations.{word_limit};
 ghost use Rattle.model.specs.Lists.{first_below};

@@ -1,5 +1,8 @@
 // Answers commands from standard input, a line each. With arguments it plays the scripts that they name (`-` is standard input), each behind a line with its name; where a call
 // of a script is refused, it tells what that changed, which is nothing.
+
+#![tactic(auto)]
+
 mod same;
 mod talking;
 mod watching;

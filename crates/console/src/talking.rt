@@ -10,7 +10,7 @@ use libc::STDOUT_FILENO;
 const MOST_LINES: u64 = u64::MAX;
 
 // What is kept from one line to the next: the session, and the words that its store is lent from.
-#[derive(Drop)]
+#[derive(Clone, Copy)]
 struct Standing {
     session: Session,
     words: [u32; 320],

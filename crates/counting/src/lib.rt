@@ -1,4 +1,7 @@
 // Every list of steps is tried, each step from a copy of the same state, and counted at the place of the codes that it leads to.
+
+#![tactic(auto)]
+
 ghost use Rattle.std.specs.Prelude.{◌<◌};
 ghost use Rattle.counting.specs.Trying.{Trying, Counted, Countable, CountedAll};
 

@@ -1,4 +1,7 @@
 // How many lists of steps end how, for users.
+
+#![tactic(auto)]
+
 ghost use Rattle.std.specs.Prelude.{◌≡◌};
 ghost use Rattle.model.specs.Counting.{length_used};
 ghost use Rattle.model.specs.Refusals.{count_refusal};
@@ -16,7 +19,7 @@ const MOST_STEPS: u8 = 10;
 const PLACES: usize = 4096;
 
 // What counting answers, and the length that it used; refused, 0.
-#[derive(Drop)]
+#[derive(Clone, Copy)]
 pub struct Counted {
     pub answer: Answer,
     pub length: u8,

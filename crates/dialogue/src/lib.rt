@@ -1,4 +1,7 @@
 // What the console does with one line: a public call, or a change by force. What it answers is text in a caller's bytes.
+
+#![tactic(auto)]
+
 mod calls;
 mod fields;
 mod logged;

@@ -13,7 +13,7 @@ use model::{Rules, Table};
 use numbers::lesser;
 
 // What a dialogue keeps: a table, how many words are lent as a store, how many records to the report, the rows noted for the next loading, how many places are lent to a count, and how many entries the logs of sends and of receives have.
-#[derive(Drop)]
+#[derive(Clone, Copy)]
 pub struct Session {
     pub table: Table,
     pub words: usize,
@@ -25,7 +25,7 @@ pub struct Session {
 }
 
 // What is kept after a line, and where its answer ends.
-#[derive(Drop)]
+#[derive(Clone, Copy)]
 pub struct Reply {
     pub session: Session,
     pub end: usize,

@@ -1,4 +1,7 @@
 // The place of some threads' codes, read to base 8.
+
+#![tactic(auto)]
+
 ghost use Rattle.std.specs.Prelude.{◌≡◌, ◌<◌};
 ghost use Rattle.model.specs.Counting.{digit_of, place_from, count_places};
 ghost use Rattle.digits.specs.Coded.{code_at, Coded};

@@ -1,4 +1,7 @@
 // What program bondtrace does, with any descriptor as its input: a schedule of any length is played in constant memory, and its end is printed.
+
+#![tactic(auto)]
+
 ghost use Rattle.std.specs.Prelude.{◌≡◌, Bool, List, [], ◌++◌, ℕ, ◌+◌, ◌≤◌, ◌<◌, length, take};
 ghost use Rattle.model.specs.Bondtrace.{bondtrace};
 ghost use Rattle.text.specs.Writing.{Counts, Printed};
@@ -14,14 +17,14 @@ use refill::Supply;
 const MOST_BYTES: u64 = 9223372036854775808;
 
 // A text of so many bytes, and how many bytes of input were delivered for it.
-#[derive(Drop)]
+#[derive(Clone, Copy)]
 struct Ended {
     length: usize,
     delivered: u64,
 }
 
 // A text of so many bytes, and how many bytes of input were delivered behind those of the first read.
-#[derive(Drop)]
+#[derive(Clone, Copy)]
 struct Text {
     length: usize,
     later: u64,

@@ -1,4 +1,7 @@
 // The endings of a step: each takes the stepped thread and the other one, and returns both as the ending leaves them.
+
+#![tactic(auto)]
+
 ghost use Rattle.std.specs.Prelude.{◌≡◌, true, ℕ};
 ghost use Rattle.std.proofs.Math.Option.{some};
 ghost use Rattle.model.specs.declared.Thread.{Thread};
@@ -10,7 +13,7 @@ use actions::Ending;
 use model::{Outcome, Thread};
 
 // The two threads of a step that has ended something.
-#[derive(Drop)]
+#[derive(Clone, Copy)]
 pub struct Pair {
     pub own: Thread,
     pub other: Thread,

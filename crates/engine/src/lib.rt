@@ -1,4 +1,7 @@
 // The public calls: each tests its arguments in the order of document 01's rows of refusal, and then runs the core.
+
+#![tactic(auto)]
+
 ghost use Rattle.std.specs.Prelude.{◌≡◌, ℕ, List};
 ghost use Rattle.model.specs.declared.Answer.TheVariants.{Refused};
 ghost use Rattle.model.specs.declared.EntryPoint.TheVariants.{Main, Spark};

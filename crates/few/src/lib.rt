@@ -1,4 +1,7 @@
 // Four threads for a table of at most four, few enough to be copied before each choice of thread; and what a step of one of them changes, without a store.
+
+#![tactic(auto)]
+
 ghost use Rattle.std.specs.Prelude.{◌≡◌, ◌<◌, ◌≤◌};
 ghost use Rattle.model.specs.Counting.{counted_threads, count_places, place_from};
 ghost use Rattle.actions.specs.Acted.{Acted};
@@ -11,7 +14,7 @@ use actions::Change;
 use model::{Answer, Outcome, Table, Thread};
 
 // The first n of four threads are in use; place is that of their codes.
-#[derive(Drop)]
+#[derive(Clone, Copy)]
 pub struct Few {
     pub n: u8,
     pub threads: [Thread; 4],

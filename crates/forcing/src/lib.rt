@@ -1,4 +1,7 @@
 // A field of a thread set by force, as no call would, by the numbers and the operation of a line.
+
+#![tactic(auto)]
+
 use commands::Parsed;
 use model::{Flags, Operation, Outcome, Queue, Thread};
 

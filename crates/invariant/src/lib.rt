@@ -1,1 +1,3 @@
 // No code: every call keeps a table well-formed.
+
+#![tactic(auto)]

@@ -1,1 +1,3 @@
 // The language of lines: definitions in specs/, and no function.
+
+#![tactic(auto)]

@@ -1,1 +1,3 @@
 // No code: laws of the definitions, for the theorems and for the code.
+
+#![tactic(auto)]

@@ -1,4 +1,7 @@
 // A number by its letter: its largest value, its least, its sign, and how many more may follow.
+
+#![tactic(auto)]
+
 ghost use Rattle.std.specs.Prelude.{◌≡◌};
 ghost use Rattle.language.specs.Grammar.{largest, least, takes_sign, most_more};
 ghost use Rattle.language.specs.Commands.{is_negative, choice_digits, digits_of, reason_for};
@@ -43,7 +46,7 @@ const PLACES: u8 = b'l';
 const MINUS: u8 = b'-';
 
 // A number, or why a word is none.
-#[derive(Drop)]
+#[derive(Clone, Copy)]
 pub struct Amount {
     pub reason: u8,
     pub value: u32,

@@ -1,4 +1,7 @@
 // The lines of an input of any length, taken one at a time through one buffer.
+
+#![tactic(auto)]
+
 ghost use Rattle.std.specs.Prelude.{◌≡◌, ◌≤◌, length};
 ghost use Rattle.line_input.specs.Fed.{Fed, TakenFrom};
 
@@ -9,7 +12,7 @@ const CUT: usize = 4097;
 
 // How far an input is read: the bytes of the buffer from start to end are not used yet; whether the input has ended; and whether a line was too long
 // and its rest is still to be dropped.
-#[derive(Drop)]
+#[derive(Clone, Copy)]
 pub struct Feed {
     pub start: usize,
     pub end: usize,
@@ -18,7 +21,7 @@ pub struct Feed {
 }
 
 // A line of the buffer, where there is one: the bytes from start to stop.
-#[derive(Drop)]
+#[derive(Clone, Copy)]
 pub struct Taken {
     pub there: bool,
     pub start: usize,

@@ -1,7 +1,9 @@
 // The types of two recorders' logs. The definitions over them are in specs/.
 
+#![tactic(auto)]
+
 // An entry of a log: who sent to whom, and how many of the eight words. In a log of receives the sender is the source.
-#[derive(Drop)]
+#[derive(Clone, Copy)]
 pub struct LogEntry {
     pub sender: u8,
     pub target: u8,
@@ -10,14 +12,14 @@ pub struct LogEntry {
 }
 
 // A log: the first len of entries. A len above 512 stands for more entries than there is room for.
-#[derive(Drop)]
+#[derive(Clone, Copy)]
 pub struct Log {
     pub entries: [LogEntry; 512],
     pub len: u16,
 }
 
 // What comparing a log of sends with a log of receives answers: they agree, or where they first differ.
-#[derive(Drop)]
+#[derive(Clone, Copy)]
 pub enum Compared {
     Refused(u8),
     Agree,

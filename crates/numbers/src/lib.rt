@@ -1,4 +1,7 @@
 // Functions on plain numbers.
+
+#![tactic(auto)]
+
 ghost use Rattle.std.specs.Prelude.{◌≡◌, min};
 
 // The lesser of two numbers.

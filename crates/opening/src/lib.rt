@@ -1,4 +1,7 @@
 // Where playing a schedule starts: its table record is read, and a new table is made.
+
+#![tactic(auto)]
+
 ghost use Rattle.std.specs.Prelude.{◌≡◌, ◌≤◌, length};
 ghost use Rattle.model.specs.RecordBytes.{head_length};
 ghost use Rattle.opening.specs.Opened.{open_size, open_refusal, opened, Steady};
@@ -6,7 +9,7 @@ ghost use Rattle.opening.specs.Opened.{open_size, open_refusal, opened, Steady};
 use model::Table;
 
 // How far a schedule is played: the table, how many records were read and calls refused, and the byte at which the next record starts.
-#[derive(Drop)]
+#[derive(Clone, Copy)]
 pub struct Playback {
     pub table: Table,
     pub records: u64,
@@ -15,7 +18,7 @@ pub struct Playback {
 }
 
 // A playback of the table record alone, and the number by which that is refused, or 0.
-#[derive(Drop)]
+#[derive(Clone, Copy)]
 pub struct Opened {
     pub number: u8,
     pub playback: Playback,

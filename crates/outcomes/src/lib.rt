@@ -1,4 +1,7 @@
 // What users see of a thread: its outcome and its words, each by a function of its own, and both by the outcome call.
+
+#![tactic(auto)]
+
 ghost use Rattle.std.specs.Prelude.{◌≡◌, ◌+◌, ◌*◌};
 ghost use Rattle.model.specs.Answers.{said_outcome};
 ghost use Rattle.model.specs.declared.Table.{Table};
@@ -7,7 +10,7 @@ ghost use Rattle.model.specs.Promise.{state, outcome_answer, outcome_words, outc
 use model::{OutcomeAnswer, Table};
 
 // What the outcome call returns: its answer, and the words, as a slice of the caller's store.
-#[derive(Drop)]
+#[derive(Clone, Copy)]
 pub struct OutcomeReturned<'a> {
     pub answer: OutcomeAnswer,
     pub words: &'a [u32],

@@ -1,1 +1,3 @@
 // No code: theorems about the atomic machine alone.
+
+#![tactic(auto)]

@@ -1,4 +1,7 @@
 // A step by its phase: each phase tests in the order of document 01 and takes the action that the tests settle on.
+
+#![tactic(auto)]
+
 ghost use Rattle.std.specs.Prelude.{◌≡◌, ◌≤◌, length};
 ghost use Rattle.std.proofs.Math.Option.{none, some};
 ghost use Rattle.model.specs.Operations.{word_limit};

@@ -1,4 +1,7 @@
 // What program bondtrace prints of a schedule, written into a caller's bytes: of one that stands whole in memory, and at the end of one that came piece by piece.
+
+#![tactic(auto)]
+
 ghost use Rattle.std.specs.Prelude.{◌≡◌, ◌≢◌, Bool, List, ◌++◌, ℕ, length};
 ghost use Rattle.model.specs.Bondtrace.{bondtrace};
 ghost use Rattle.text.specs.Writing.{Printed};

@@ -1,4 +1,7 @@
 // A schedule is played on: its records, as their bytes come in, from a table that needs no check.
+
+#![tactic(auto)]
+
 ghost use Rattle.std.specs.Prelude.{◌≡◌, length};
 ghost use Rattle.pieces.specs.Playing.{whole_record};
 ghost use Rattle.playing.specs.Playback.{Playable, PlayPromise, Carries};
@@ -7,7 +10,7 @@ use model::EntryPoint;
 use opening::Playback;
 
 // How far playing came, and whether an unlawful record stands there.
-#[derive(Drop)]
+#[derive(Clone, Copy)]
 pub struct Played {
     pub playback: Playback,
     pub bad: bool,

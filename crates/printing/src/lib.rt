@@ -1,4 +1,7 @@
 // What program `bondtrace` prints, written into a caller's bytes as far as they reach.
+
+#![tactic(auto)]
+
 ghost use Rattle.std.specs.Prelude.{◌≡◌, ◌*◌, ◌≤◌, length};
 ghost use Rattle.model.specs.Threads.{at};
 ghost use Rattle.model.specs.Promise.{state};

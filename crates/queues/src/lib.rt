@@ -1,4 +1,7 @@
 // A thread's queue of waiting senders: searching it, joining it and leaving it.
+
+#![tactic(auto)]
+
 ghost use Rattle.std.specs.Prelude.{◌≡◌, ◌<◌, ◌≤◌, take};
 ghost use Rattle.std.proofs.Math.Option.{get_or};
 ghost use Rattle.model.specs.Lists.{occurs};
@@ -32,7 +35,7 @@ fn search(h: Thread) -> usize
 }
 
 // What a search found: the sender that it settled on, or nobody, and how many queue places it read.
-#[derive(Drop)]
+#[derive(Clone, Copy)]
 pub struct Found {
     pub sender: u8,
     pub read: u8,

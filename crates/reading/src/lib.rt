@@ -1,4 +1,7 @@
 // One record of a schedule, read from bytes: document 01, "Schedule bytes".
+
+#![tactic(auto)]
+
 mod begin_bytes;
 
 ghost use Rattle.std.specs.Prelude.{◌≡◌, true, ◌≤◌, length};

@@ -1,4 +1,7 @@
 // The records of a schedule of any length, read from a descriptor through one buffer, and the line of a record that is refused.
+
+#![tactic(auto)]
+
 ghost use Rattle.std.specs.Prelude.{◌≡◌, ◌≤◌, length};
 ghost use Rattle.model.specs.RecordBytes.{longest_record};
 ghost use Rattle.model.specs.Decoding.{decode};
@@ -12,7 +15,7 @@ use reading::LONGEST;
 pub const LAST_BYTE: u64 = u64::MAX - LONGEST as u64;
 
 // A slice of the buffer: the bytes from start to end.
-#[derive(Drop)]
+#[derive(Clone, Copy)]
 pub struct Span {
     pub start: usize,
     pub end: usize,
@@ -20,7 +23,7 @@ pub struct Span {
 
 // The next record: whether the schedule ended before it; the record, where its bytes start and how many they are; refused, none, and the number; and the
 // bytes behind it.
-#[derive(Drop)]
+#[derive(Clone, Copy)]
 pub struct Next {
     pub over: bool,
     pub item: Record,
@@ -31,7 +34,7 @@ pub struct Next {
 }
 
 // A record, and how many bytes it has; refused, none, and the number.
-#[derive(Drop)]
+#[derive(Clone, Copy)]
 struct Taken {
     item: Record,
     length: usize,

@@ -1,4 +1,7 @@
 // The line of a record, without what ends it, written into a caller's bytes from a place on, as far as they reach.
+
+#![tactic(auto)]
+
 ghost use Rattle.std.specs.Prelude.{◌≡◌, [], ◌∷◌, ◌++◌, ◌≤◌, length, get_or};
 ghost use Rattle.model.specs.Bondtrace.{spaced};
 ghost use Rattle.language.specs.RecordText.{sent_words, send_text, receive_text, record_line};

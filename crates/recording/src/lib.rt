@@ -1,4 +1,7 @@
 // What a recorder asks of a thread.
+
+#![tactic(auto)]
+
 ghost use Rattle.recording.specs.Rendezvous.{TellsRendezvous};
 
 use model::Thread;

@@ -1,9 +1,12 @@
 // Reading an input of any length through one buffer.
+
+#![tactic(auto)]
+
 ghost use Rattle.std.specs.Prelude.{◌≡◌, ◌+◌, ◌-◌, ◌≤◌, ◌<◌, length, take, drop};
 ghost use Rattle.refill.specs.Refilled.{Refilled};
 
 // What the reads have given: where the bytes in the buffer end, and how many were delivered in all.
-#[derive(Drop)]
+#[derive(Clone, Copy)]
 pub struct Supply {
     pub end: usize,
     pub delivered: u64,

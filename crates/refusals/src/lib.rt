@@ -1,4 +1,7 @@
 // The refusals of document 01's table: one function for each row or group of rows, joined in the order of checking.
+
+#![tactic(auto)]
+
 ghost use Rattle.std.specs.Prelude.{◌≡◌, [], ◌∷◌, ℕ, ◌≤◌};
 ghost use Rattle.model.specs.declared.Rules.{Rules};
 ghost use Rattle.model.specs.declared.Table.{Table};

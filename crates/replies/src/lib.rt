@@ -1,4 +1,7 @@
 // What the console says of itself: errors, marks and help, written into a caller's bytes from a place on, as far as they reach.
+
+#![tactic(auto)]
+
 ghost use Rattle.std.specs.Prelude.{◌≡◌, ◌≤◌, length, drop};
 ghost use Rattle.language.specs.Words.{words};
 ghost use Rattle.language.specs.Commands.{reason_text};

@@ -1,4 +1,7 @@
 // The report: what it says of all threads, and the one function that writes a caller's slice of records.
+
+#![tactic(auto)]
+
 ghost use Rattle.std.specs.Prelude.{◌≡◌, get_or};
 ghost use Rattle.model.specs.Promise.{ReportPromise};
 ghost use Rattle.report.specs.Report.{zero_outcome, all_outcomes, Reported};
@@ -6,7 +9,7 @@ ghost use Rattle.report.specs.Report.{zero_outcome, all_outcomes, Reported};
 use model::{Answer, Outcome, Table};
 
 // What a report says: its answer, how many of the caller's records it fills, none where it is refused, and the outcomes of all 32 threads.
-#[derive(Drop)]
+#[derive(Clone, Copy)]
 pub struct Report {
     pub answer: Answer,
     pub len: usize,

@@ -1,4 +1,7 @@
 // Whether a table is at rest, for users: where no thread's step would move, no thread sleeps beside a partner.
+
+#![tactic(auto)]
+
 ghost use Rattle.std.specs.Prelude.{◌≡◌, ◌<◌, true, length};
 ghost use Rattle.model.specs.Answers.{said};
 ghost use Rattle.model.specs.WellFormed.{well_formed};
@@ -8,7 +11,7 @@ ghost use Rattle.resting.specs.Said.{said_rest};
 use model::{Answer, Table};
 
 // What the rest call answers.
-#[derive(Drop)]
+#[derive(Clone, Copy)]
 pub enum RestAnswer {
     Refused(u8),
     AtRest,

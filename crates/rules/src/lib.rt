@@ -1,4 +1,7 @@
 // Who may send to whom: whether rules permit a pair, and how they fit a table.
+
+#![tactic(auto)]
+
 ghost use Rattle.std.specs.Prelude.{◌≡◌, ◌≤◌, ◌<◌};
 ghost use Rattle.model.specs.Rules.{in_range, holds_pair, rows_in, permits, row_limit, no_rules, pairs_from, pair_misfit, is_fit, first_misfit, misfit, pair_of, rules_fit};
 ghost use Rattle.rules.specs.Covers.{Covers, OneMore, RoomFor};

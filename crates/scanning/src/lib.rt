@@ -1,4 +1,7 @@
 // Bytes taken apart: the lines of an input, the words of a line, the number that a word is.
+
+#![tactic(auto)]
+
 ghost use Rattle.std.specs.Prelude.{◌≡◌, true, ◌*◌, ◌+◌, ◌-◌, ◌≤◌, min, length};
 ghost use Rattle.model.specs.Lists.{same_numbers};
 ghost use Rattle.language.specs.Words.{is_blank, is_digit, has_comma};
@@ -26,14 +29,14 @@ const NINE: u8 = b'9';
 pub const CAP: u64 = 4294967296;
 
 // Bytes from one place up to another.
-#[derive(Drop)]
+#[derive(Clone, Copy)]
 pub struct Span {
     pub start: usize,
     pub end: usize,
 }
 
 // Whether a word is a number, and which.
-#[derive(Drop)]
+#[derive(Clone, Copy)]
 pub struct Numeral {
     pub digits: bool,
     pub value: u64,

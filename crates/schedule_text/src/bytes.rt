@@ -19,7 +19,7 @@ use scanning::{next_word, without_return};
 use writing::write;
 
 // What a line came to: whether it is one of a schedule, and whether the next record is the first.
-#[derive(Drop)]
+#[derive(Clone, Copy)]
 struct Step {
     good: bool,
     first: bool,

@@ -1,4 +1,7 @@
 // Schedules as text: what programs `totext` and `tobytes` do with any descriptor as their input, in constant memory.
+
+#![tactic(auto)]
+
 mod asked;
 mod bytes;
 mod respelling;

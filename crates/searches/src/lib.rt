@@ -1,4 +1,7 @@
 // The search of a thread, for users: the sender that it settles on, and how many queue places it read.
+
+#![tactic(auto)]
+
 ghost use Rattle.std.specs.Prelude.{◌≡◌};
 ghost use Rattle.model.specs.Promise.{search_answer};
 ghost use Rattle.searches.specs.Said.{said_search};
@@ -7,7 +10,7 @@ use model::Table;
 use queues::Found;
 
 // What the search call answers.
-#[derive(Drop)]
+#[derive(Clone, Copy)]
 pub enum SearchAnswer {
     Refused(u8),
     NotReceiving,

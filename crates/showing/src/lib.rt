@@ -1,4 +1,7 @@
 // The line of one thread, written into a caller's bytes from a place on, as far as they reach.
+
+#![tactic(auto)]
+
 ghost use Rattle.std.specs.Prelude.{◌≡◌, ◌-◌, take};
 ghost use Rattle.model.specs.Bondtrace.{spaced};
 ghost use Rattle.text.specs.Writing.{Written};

@@ -9,7 +9,7 @@ use threads::{NEVER, NOBODY};
 const WORDS: usize = 8;
 
 // How far a line is written, and how many changes of this thread it tells already.
-#[derive(Drop)]
+#[derive(Clone, Copy)]
 pub struct Told {
     pub end: usize,
     pub count: usize,

@@ -1,4 +1,7 @@
 // A step in words: which call a record was, what it answered, and what it changed of each thread.
+
+#![tactic(auto)]
+
 mod changes;
 mod names;
 

@@ -1,1 +1,3 @@
 // No code: theorems about lists of steps and where they lead.
+
+#![tactic(auto)]

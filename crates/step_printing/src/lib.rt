@@ -1,4 +1,7 @@
 // A schedule followed through the public calls: after each record the call's answer and every field in use of every thread; or, in words, what it changed; or, of the rendezvous alone, what two recorders note.
+
+#![tactic(auto)]
+
 mod answers;
 mod entries;
 mod lines;

@@ -1,5 +1,8 @@
 // Prints, after each record of the schedule on standard input, the call's answer and every field in use of every thread; with the argument `words`, what the record was and what
 // it changed, in words; with the argument `logs`, what two recorders note at each rendezvous, as lines of the console.
+
+#![tactic(auto)]
+
 use scanning::is_word;
 
 // What the argument asks for.

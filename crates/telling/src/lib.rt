@@ -1,4 +1,7 @@
 // What the console tells of a table: an outcome, the report, every field, what a search finds, how rules fit, how lists of steps end, how two logs compare, whether it is at rest; by the public calls, as text in a caller's bytes.
+
+#![tactic(auto)]
+
 mod compared;
 mod counted;
 mod lines;

@@ -12,7 +12,7 @@ pub const RECORDS: usize = 40;
 const NUMBER: u8 = 77;
 
 // What the report call answered, and the records after it.
-#[derive(Drop)]
+#[derive(Clone, Copy)]
 pub struct Filled {
     pub answer: Answer,
     pub records: [Outcome; 40],

@@ -1,4 +1,7 @@
 // Text written into a caller's bytes from a place on, as far as they reach.
+
+#![tactic(auto)]
+
 ghost use Rattle.std.specs.Prelude.{◌≡◌, [], ◌∷◌, ◌*◌, ◌≤◌, length, nat_abs};
 ghost use Rattle.model.specs.Bondtrace.{decimal, signed, spaced};
 ghost use Rattle.text.specs.Texts.{numbers_line, answer_text, longest_word};

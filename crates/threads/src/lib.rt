@@ -1,4 +1,7 @@
 // Functions on one thread: each returns what a definition of the model says.
+
+#![tactic(auto)]
+
 ghost use Rattle.std.specs.Prelude.{◌≡◌, cond, ◌^◌, leb};
 ghost use Rattle.model.specs.Codes.{is_failure, code_only};
 ghost use Rattle.model.specs.Times.{tick_count, fall};

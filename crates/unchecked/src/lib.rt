@@ -1,4 +1,7 @@
 // The calls where they are not refused: each runs from a table that has passed the check, and leaves one that would.
+
+#![tactic(auto)]
+
 ghost use Rattle.std.specs.Prelude.{◌≡◌, ℕ, List, []};
 ghost use Rattle.model.specs.declared.EntryPoint.TheVariants.{Main};
 ghost use Rattle.model.specs.Threads.{new_thread, new_table};

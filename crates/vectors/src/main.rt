@@ -1,5 +1,8 @@
 // Plays the schedules that its arguments name as bondtrace does, those behind the word `steps` as steptrace does, those behind the word `words` as it does
 // in words, those behind the word `logs` as it does for two recorders, and those behind the word `texts` through their text and back. Last it tries what no schedule and no line of the console can say.
+
+#![tactic(auto)]
+
 mod cases;
 mod texts;
 mod trying;

@@ -1,4 +1,7 @@
 // Whether a table is well-formed (document 01's "sound"): each thread by itself, and what is gathered of the threads together.
+
+#![tactic(auto)]
+
 ghost use Rattle.std.specs.Prelude.{◌≡◌, ◌≤◌, ◌<◌, length};
 ghost use Rattle.model.specs.Lists.{all_below};
 ghost use Rattle.model.specs.Queues.{senders};

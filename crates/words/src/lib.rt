@@ -1,4 +1,7 @@
 // The caller's word store, by slices of it: thread x's eight words start at place 8 × x.
+
+#![tactic(auto)]
+
 ghost use Rattle.std.specs.Prelude.{◌≡◌, ◌+◌, ◌*◌, ◌≤◌, min, length, take, replicate};
 ghost use Rattle.model.specs.Store.{words_at, zeroed};
 

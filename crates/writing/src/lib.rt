@@ -1,4 +1,7 @@
 // One record of a schedule, written as bytes: document 01, "Schedule bytes".
+
+#![tactic(auto)]
+
 ghost use Rattle.std.specs.Prelude.{◌≡◌, ◌++◌, map, ◌+◌, ◌≤◌, length, take, drop};
 ghost use Rattle.model.specs.Lists.{bit, concat};
 ghost use Rattle.model.specs.Encoding.{partner_of, word_bytes, set_of, parts_of, all_zero, EncodePromise};
