@@ -80,8 +80,6 @@ pub const RECEIVED_ROW: u8 = 21;
 
 pub const COMPARE_ROW: u8 = 22;
 
-pub const REST_ROW: u8 = 23;
-
 // Then the fields that `set` can set.
 pub const FLAGS_ROW: u8 = FIRST_FIELD as u8;
 
@@ -114,7 +112,7 @@ pub const NOTHING: u8 = 255;
 const SET_ROW: usize = 13;
 
 // The first row that is a field, and how many fields there are.
-const FIRST_FIELD: usize = 24;
+const FIRST_FIELD: usize = 23;
 
 const FIELDS: usize = 12;
 
@@ -389,7 +387,6 @@ places      l      .
 sent        bb     w
 received    bb     w
 compare            .
-rest               .
 flags       11111  .
 phase       b      .
 left        n      .

@@ -5,8 +5,8 @@ ghost use Rattle.commands.specs.Standing.{line_room};
 use crate::{calls, fields, logged};
 use commands::{
     BEGIN_ROW, CANCEL_ROW, COMPARE_ROW, COUNT_ROW, HELP_ROW, OUTCOME_ROW, PLACES_ROW, Parsed,
-    RECORDS_ROW, REPORT_ROW, REST_ROW, RULE_ROW, RULES_ROW, SAY_ROW, SEARCH_ROW, SENT_ROW,
-    SHOW_ROW, SIZE_ROW, SPARK_ROW, STEP_ROW, STORE_ROW, TABLE_ROW, TICK_ROW,
+    RECORDS_ROW, REPORT_ROW, RULE_ROW, RULES_ROW, SAY_ROW, SEARCH_ROW, SENT_ROW, SHOW_ROW,
+    SIZE_ROW, SPARK_ROW, STEP_ROW, STORE_ROW, TABLE_ROW, TICK_ROW,
 };
 use forcing::{byte_at, number_at};
 use model::{Rules, Table};
@@ -99,7 +99,6 @@ fn told(
         SAY_ROW => said(line, out),
         SEARCH_ROW => telling::search(table, x, out),
         COUNT_ROW => telling::count(table, number_at(numbers, 0) as u64, session.places, out),
-        REST_ROW => telling::rest(table, out),
         _ => replies::put_help(out, 0),
     }
 }
@@ -107,14 +106,7 @@ fn told(
 // Whether a command only prints.
 fn only_prints(row: u8) -> bool {
     match row {
-        OUTCOME_ROW
-        | REPORT_ROW
-        | SHOW_ROW
-        | SAY_ROW
-        | SEARCH_ROW
-        | COUNT_ROW
-        | REST_ROW
-        | HELP_ROW => true,
+        OUTCOME_ROW | REPORT_ROW | SHOW_ROW | SAY_ROW | SEARCH_ROW | COUNT_ROW | HELP_ROW => true,
         _ => false,
     }
 }

@@ -40,7 +40,7 @@ pub data Name : Type 0 where
   a-set largest-set above_a_set set_of_a_list set_of-nothing some-partners same-partner_twice partner-not-below_32 partner_of_letters any_and-more nobody-between_commas nobody-behind_a_comma partners-and-more : Name
   a_rule rule_that_forbids rule_of_neither rule_of_a_prefix rule_undecided rule_of_three rule-and-more all-rules rules_of-one : Name
   a_count count-too_long count_of-two the_places too_many-places : Name
-  a_send send_of_no-words largest-word above_a_word send_of_letters send-to-nobody a_receive receive-from_256 both_logs logs_of_one at_rest rest_of_one : Name
+  a_send send_of_no-words largest-word above_a_word send_of_letters send-to-nobody a_receive receive-from_256 both_logs logs_of_one : Name
 
 -- the line and the command of each
 unfoldable pub row : Name → LineRow
@@ -130,8 +130,6 @@ row a_receive = asks "received 1 0 7" 21 (1 ∷ 0 ∷ 7 ∷ [])
 row receive-from_256 = refuses "received 0 256" too_large "256"
 row both_logs = asks "compare" 22 []
 row logs_of_one = refuses "compare 0" too_much "0"
-row at_rest = asks "rest" 23 []
-row rest_of_one = refuses "rest 0" too_much "0"
 
 -- each line is the command that stands beside it
 pub lines-read : (n : Name) → command_of (ascii (row n).line) ≡ (row n).command
@@ -210,8 +208,6 @@ lines-read a_receive = refl
 lines-read receive-from_256 = refl
 lines-read both_logs = refl
 lines-read logs_of_one = refl
-lines-read at_rest = refl
-lines-read rest_of_one = refl
 
 -- ---- lines that are too long to stand in a row
 -- "Words past the eighth are counted, to any number (300 words are refused 9 and do not wrap round), and not kept": the count stays at 255

@@ -31,7 +31,6 @@ grammar = concat (
     ∷ ascii "sent        bb     w\n"
     ∷ ascii "received    bb     w\n"
     ∷ ascii "compare            .\n"
-    ∷ ascii "rest               .\n"
     ∷ ascii "flags       11111  .\n"
     ∷ ascii "phase       b      .\n"
     ∷ ascii "left        n      .\n"
@@ -59,11 +58,11 @@ most_numbers = 7
 
 -- the rows before this are commands, the others are fields
 abbrev pub first_field : ℕ
-first_field = 24
+first_field = 23
 
 -- how many rows there are
 abbrev pub rows : ℕ
-rows = 36
+rows = 35
 
 -- `set`, the command whose second word is a field
 abbrev pub set_row : ℕ

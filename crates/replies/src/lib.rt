@@ -149,7 +149,6 @@ search X                 which sender the search of X finds, or none, and how ma
 sent S T WORD ..         notes in a log of sends that S sent T these words; up to 520 are kept
 received T S WORD ..     notes in a log of receives that T received these words from S; up to 520 are kept
 compare                  compares both logs and forgets them: agree, or the first send that differs from its receive, or the first receive that was not sent
-rest                     whether nobody would move: at rest, or the lowest thread whose step would
 count L                  how many lists of L steps (10 at most) end with which codes, thread 0 first, for at most 4 threads
 say WORD ..              the words, as a mark
 store K V                lends a store of K words, each V
