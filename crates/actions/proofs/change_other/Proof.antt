@@ -7,5 +7,5 @@ returns : tie.Need-returns
 unfolding other_changed
 returns c = refl
 
-pub change-other-spec : {M : Type 1} → statement M
-change-other-spec = tie.close (tie.spec returns)
+pub change_other_spec : {M : Type 1} → statement M
+change_other_spec = tie.close (tie.spec returns)

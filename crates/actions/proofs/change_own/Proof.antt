@@ -7,5 +7,5 @@ returns : tie.Need-returns
 unfolding own_changed
 returns c = refl
 
-pub change-own-spec : {M : Type 1} → statement M
-change-own-spec = tie.close (tie.spec returns)
+pub change_own_spec : {M : Type 1} → statement M
+change_own_spec = tie.close (tie.spec returns)

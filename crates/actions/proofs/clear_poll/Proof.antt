@@ -5,12 +5,12 @@ use Rattle.actions.specs.Acted.{keeping, own_changed, other_changed}
 use Rattle.actions.proofs.clear_poll.Statement.{statement}
 use Rattle.actions.proofs.clear_poll.Tie as tie
 
-keeping-requires : tie.Need-keeping-requires
+keeping-requires : tie.Need-keeping-c-requires
 keeping-requires c κs = search rules
 
 returns : tie.Need-returns
 unfolding reply_of own_after other_after keeping own_changed other_changed
-returns c = λ x. rw c.keeping.ensures (record { told = (refl, refl); answers = refl })
+returns c = λ x. rw c.keeping-c.ensures (record { told = (refl, refl); answers = refl })
 
-pub clear-poll-spec : {M : Type 1} → statement M
-clear-poll-spec = tie.close (tie.spec keeping-requires returns)
+pub clear_poll_spec : {M : Type 1} → statement M
+clear_poll_spec = tie.close (tie.spec keeping-requires returns)

@@ -5,36 +5,36 @@ use borrow.Author.Rules.{rules}
 use Rattle.actions.proofs.copy_word.Statement.{statement}
 use Rattle.actions.proofs.copy_word.Tie as tie
 
-cast-k : tie.Need-overflow-cast-k
+cast-k : tie.Need-overflow_cast-k
 cast-k c = search rules
 
-mul_words : tie.Need-overflow-mul-words
+mul_words : tie.Need-offset_bounds-message-k
 mul_words c = search rules
 
-array-read-words : tie.Need-array-read-words
+array-read-words : tie.Need-bounds-message-k
 array-read-words c = search rules
 
-mul-words-2 : tie.Need-overflow-mul-words-2
+mul-words-2 : tie.Need-offset_bounds-words-k
 mul-words-2 c = search rules
 
-slice-write-words : tie.Need-slice-write-words
+slice-write-words : tie.Need-bounds-words-k
 slice-write-words c = search rules
 
-keeping-requires : tie.Need-keeping-requires
+keeping-requires : tie.Need-keeping-c-requires
 keeping-requires c κs = search rules
 
-add-c : tie.Need-overflow-add-c
+add-c : tie.Need-overflow_add-c
 add-c c = search rules
 
-same_length : tie.Need-same-length
+same_length : tie.Need-shape_of-words
 same_length c = search rules
 
 returns : tie.Need-returns
 unfolding reply_of own_after other_after keeping own_changed other_changed
-returns c = (λ x. rw c.before.keeping.ensures (record { told = (refl, refl); answers = refl }), refl)
+returns c = (λ x. rw c.before.keeping-c.ensures (record { told = (refl, refl); answers = refl }), refl)
 
-pub copy-word-spec : {M : Type 1} → statement M
-copy-word-spec =
+pub copy_word_spec : {M : Type 1} → statement M
+copy_word_spec =
     tie.close
     (tie.spec
     cast-k

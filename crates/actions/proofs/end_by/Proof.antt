@@ -12,5 +12,5 @@ returns : tie.Need-returns
 unfolding keeping
 returns c = λ x a is. rw c.keeping.ensures (ending_acts _ x _ _ a is refl)
 
-pub end-by-spec : {M : Type 1} → statement M
-end-by-spec = tie.close (tie.spec keeping-requires returns)
+pub end_by_spec : {M : Type 1} → statement M
+end_by_spec = tie.close (tie.spec keeping-requires returns)

@@ -5,12 +5,12 @@ use Rattle.actions.specs.Acted.{keeping, own_changed, other_changed}
 use Rattle.actions.proofs.free_target.Statement.{statement}
 use Rattle.actions.proofs.free_target.Tie as tie
 
-keeping-requires : tie.Need-keeping-requires
+keeping-requires : tie.Need-keeping-c-requires
 keeping-requires c κs = search rules
 
 returns : tie.Need-returns
 unfolding reply_of own_after other_after keeping own_changed other_changed
-returns c = λ x p e. rw (c.keeping.ensures, e) (record { told = (refl, refl); answers = refl })
+returns c = λ x p e. rw (c.keeping-c.ensures, e) (record { told = (refl, refl); answers = refl })
 
-pub free-target-spec : {M : Type 1} → statement M
-free-target-spec = tie.close (tie.spec keeping-requires returns)
+pub free_target_spec : {M : Type 1} → statement M
+free_target_spec = tie.close (tie.spec keeping-requires returns)

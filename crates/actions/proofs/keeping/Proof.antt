@@ -7,5 +7,5 @@ returns : tie.Need-returns
 unfolding keeping
 returns c = refl
 
-pub keeping-spec : {M : Type 1} → statement M
-keeping-spec = tie.close (tie.spec returns)
+pub keeping_spec : {M : Type 1} → statement M
+keeping_spec = tie.close (tie.spec returns)

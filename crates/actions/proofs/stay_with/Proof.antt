@@ -12,5 +12,5 @@ returns : tie.Need-returns
 unfolding reply_of own_after other_after keeping own_changed other_changed
 returns c = λ x a says. rw c.keeping.ensures (record { told = (refl, refl); answers = says })
 
-pub stay-with-spec : {M : Type 1} → statement M
-stay-with-spec = tie.close (tie.spec keeping-requires returns)
+pub stay_with_spec : {M : Type 1} → statement M
+stay_with_spec = tie.close (tie.spec keeping-requires returns)

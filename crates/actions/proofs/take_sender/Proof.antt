@@ -5,12 +5,12 @@ use Rattle.actions.specs.Acted.{keeping, own_changed, other_changed}
 use Rattle.actions.proofs.take_sender.Statement.{statement}
 use Rattle.actions.proofs.take_sender.Tie as tie
 
-keeping-requires : tie.Need-keeping-requires
+keeping-requires : tie.Need-keeping-c-requires
 keeping-requires c κs = search rules
 
 returns : tie.Need-returns
 unfolding reply_of own_after other_after keeping own_changed other_changed
-returns c = rw c.keeping.ensures (record { told = (refl, refl); answers = refl })
+returns c = rw c.keeping-c.ensures (record { told = (refl, refl); answers = refl })
 
-pub take-sender-spec : {M : Type 1} → statement M
-take-sender-spec = tie.close (tie.spec keeping-requires returns)
+pub take_sender_spec : {M : Type 1} → statement M
+take_sender_spec = tie.close (tie.spec keeping-requires returns)

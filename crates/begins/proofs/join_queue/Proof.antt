@@ -9,15 +9,15 @@ joins-requires : tie.Need-joins-requires
 joins-requires c κs = search rules
 
 join-requires : tie.Need-join-requires
-join-requires c κs = c.before.before.requires (sym c.before.joins.ensures ∙ c.if1.true)
+join-requires c κs = c.before.before.requires (sym c.before.joins.ensures ∙ c.if-joins.true)
 
-returns : tie.Need-returns
+returns : tie.Need-returns-then-joins
 unfolding queue_joined
-returns c = c.join.ensures ∙ sym (cond-true _ _ _ (sym c.before.before.joins.ensures ∙ c.before.if1.true))
+returns c = c.join.ensures ∙ sym (cond-true _ _ _ (sym c.before.before.joins.ensures ∙ c.before.if-joins.true))
 
-returns-2 : tie.Need-returns-2
+returns-2 : tie.Need-returns
 unfolding queue_joined
-returns-2 c = sym (cond-false _ _ _ (sym c.before.joins.ensures ∙ c.if1.false))
+returns-2 c = sym (cond-false _ _ _ (sym c.before.joins.ensures ∙ c.if-joins.false))
 
-pub join-queue-spec : {M : Type 1} → statement M
-join-queue-spec = tie.close (tie.spec joins-requires join-requires returns returns-2)
+pub join_queue_spec : {M : Type 1} → statement M
+join_queue_spec = tie.close (tie.spec joins-requires join-requires returns returns-2)

@@ -8,13 +8,13 @@ use Rattle.begins.proofs.joined_thread.Tie as tie
 joins-requires : tie.Need-joins-requires
 joins-requires c κs = search rules
 
-returns : tie.Need-returns
+returns : tie.Need-returns-then-joins
 unfolding joined_thread
-returns c = sym (cond-true _ _ _ (sym c.before.before.joins.ensures ∙ c.before.if1.true))
+returns c = sym (cond-true _ _ _ (sym c.before.before.joins.ensures ∙ c.before.if-joins.true))
 
-returns-2 : tie.Need-returns-2
+returns-2 : tie.Need-returns
 unfolding joined_thread
-returns-2 c = sym (cond-false _ _ _ (sym c.before.joins.ensures ∙ c.if1.false))
+returns-2 c = sym (cond-false _ _ _ (sym c.before.joins.ensures ∙ c.if-joins.false))
 
-pub joined-thread-spec : {M : Type 1} → statement M
-joined-thread-spec = tie.close (tie.spec joins-requires returns returns-2)
+pub joined_thread_spec : {M : Type 1} → statement M
+joined_thread_spec = tie.close (tie.spec joins-requires returns returns-2)

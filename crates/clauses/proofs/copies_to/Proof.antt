@@ -4,13 +4,13 @@ use Rattle.formed.specs.Groups.{copies_to}
 use Rattle.clauses.proofs.copies_to.Statement.{statement}
 use Rattle.clauses.proofs.copies_to.Tie as tie
 
-returns : tie.Need-returns
+returns : tie.Need-returns-then-h-eq-COPY
 unfolding copies_to is_one_of
-returns c = rw (eq-eqb _ _ c.if1.true)
+returns c = rw (eq-eqb _ _ c.if-h-eq-COPY.true)
 
-returns-2 : tie.Need-returns-2
+returns-2 : tie.Need-returns
 unfolding copies_to is_one_of
-returns-2 c = rw (ne_eqb _ _ c.if1.false)
+returns-2 c = rw (ne_eqb _ _ c.if-h-eq-COPY.false)
 
-pub copies-to-spec : {M : Type 1} → statement M
-copies-to-spec = tie.close (tie.spec returns returns-2)
+pub copies_to_spec : {M : Type 1} → statement M
+copies_to_spec = tie.close (tie.spec returns returns-2)

@@ -10,5 +10,5 @@ returns : tie.Need-returns
 unfolding flags_fit is_one_of implies
 returns c = simp (or_assoc, or-false) (all-joined _ _)
 
-pub flags-fit-spec : {M : Type 1} → statement M
-flags-fit-spec = tie.close (tie.spec returns)
+pub flags_fit_spec : {M : Type 1} → statement M
+flags_fit_spec = tie.close (tie.spec returns)

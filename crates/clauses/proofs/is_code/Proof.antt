@@ -4,11 +4,11 @@ use Rattle.clauses.proofs.Codes.{code_bounds}
 use Rattle.clauses.proofs.is_code.Statement.{statement}
 use Rattle.clauses.proofs.is_code.Tie as tie
 
-is-failure-requires : tie.Need-is-failure-requires
+is-failure-requires : tie.Need-is_failure-failure-requires
 is-failure-requires c κs = search rules
 
 returns : tie.Need-returns
-returns c = rw (c.is-failure.ensures, to_z-of_z c.before.ranges.code) (code_bounds c.before.args.code)
+returns c = rw (c.is_failure-failure.ensures, to_z-of_z c.before.ranges.code) (code_bounds c.before.args.code)
 
-pub is-code-spec : {M : Type 1} → statement M
-is-code-spec = tie.close (tie.spec is-failure-requires returns)
+pub is_code_spec : {M : Type 1} → statement M
+is_code_spec = tie.close (tie.spec is-failure-requires returns)

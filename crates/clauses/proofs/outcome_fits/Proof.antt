@@ -10,7 +10,7 @@ use Rattle.clauses.proofs.Codes.{same_bits}
 use Rattle.clauses.proofs.outcome_fits.Statement.{statement}
 use Rattle.clauses.proofs.outcome_fits.Tie as tie
 
-is-code-requires : tie.Need-is-code-requires
+is-code-requires : tie.Need-is_code-requires
 is-code-requires c κs = search rules
 
 returns : tie.Need-returns
@@ -20,5 +20,5 @@ returns c =
     let f : SFits w32 z = search rules in
     rw (c.before.before.before.before.before.is_code.ensures, to_z-of_z f, same_bits (pos 1) z (search rules) f, same_bits (pos 0) z (search rules) f) (all-joined _ _)
 
-pub outcome-fits-spec : {M : Type 1} → statement M
-outcome-fits-spec = tie.close (tie.spec is-code-requires returns)
+pub outcome_fits_spec : {M : Type 1} → statement M
+outcome_fits_spec = tie.close (tie.spec is-code-requires returns)

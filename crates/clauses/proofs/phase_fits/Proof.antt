@@ -10,5 +10,5 @@ returns : tie.Need-returns
 unfolding phase_fits is_one_of implies
 returns c = simp or-false (all-joined _ _)
 
-pub phase-fits-spec : {M : Type 1} → statement M
-phase-fits-spec = tie.close (tie.spec returns)
+pub phase_fits_spec : {M : Type 1} → statement M
+phase_fits_spec = tie.close (tie.spec returns)

@@ -8,5 +8,5 @@ returns : tie.Need-returns
 unfolding queue_fits nobody_or_below
 returns c = all-joined _ _
 
-pub queue-fits-spec : {M : Type 1} → statement M
-queue-fits-spec = tie.close (tie.spec returns)
+pub queue_fits_spec : {M : Type 1} → statement M
+queue_fits_spec = tie.close (tie.spec returns)

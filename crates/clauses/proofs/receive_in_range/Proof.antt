@@ -12,7 +12,7 @@ unfolding receive_in_range is_time_code implies
 returns c =
     let beyond = c.before in
     let time = beyond.before in
-    rw (time.before.has-receive.ensures, time.receive-time.ensures, beyond.closed-beyond.ensures, c.is-empty.ensures) (all-joined _ _)
+    rw (time.before.has_receive.ensures, time.receive_time.ensures, beyond.closed_beyond.ensures, c.is_empty.ensures) (all-joined _ _)
 
-pub receive-in-range-spec : {M : Type 1} → statement M
-receive-in-range-spec = tie.close (tie.spec (λ c κs. search rules) (λ c κs. search rules) (λ c κs. search rules) (λ c κs. search rules) returns)
+pub receive_in_range_spec : {M : Type 1} → statement M
+receive_in_range_spec = tie.close (tie.spec (λ c κs. search rules) (λ c κs. search rules) (λ c κs. search rules) (λ c κs. search rules) returns)

@@ -9,5 +9,5 @@ returns : tie.Need-returns
 unfolding send_in_range is_time_code implies all_of
 returns c = simp (and_assoc, and-true)
 
-pub send-in-range-spec : {M : Type 1} → statement M
-send-in-range-spec = tie.close (tie.spec returns)
+pub send_in_range_spec : {M : Type 1} → statement M
+send_in_range_spec = tie.close (tie.spec returns)

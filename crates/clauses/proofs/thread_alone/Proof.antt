@@ -11,16 +11,16 @@ returns c =
     let outcome = operation.before in
     let flags = outcome.before in
     rw (
-      flags.flags-fit.ensures,
-      flags.before.has-receive.ensures,
-      outcome.outcome-fits.ensures,
-      operation.operation-fits.ensures,
-      c.before.phase-fits.ensures,
-      c.queue-fits.ensures,
+      flags.flags_fit.ensures,
+      flags.before.has_receive.ensures,
+      outcome.outcome_fits.ensures,
+      operation.operation_fits.ensures,
+      c.before.phase_fits.ensures,
+      c.queue_fits.ensures,
     ) (all-joined _ _)
 
-pub thread-alone-spec : {M : Type 1} → statement M
-thread-alone-spec =
+pub thread_alone_spec : {M : Type 1} → statement M
+thread_alone_spec =
     tie.close
     (tie.spec
     (λ c κs. search rules)

@@ -9,31 +9,31 @@ use Rattle.columns.proofs.count_earlier.Statement.{statement}
 use Rattle.columns.proofs.count_earlier.Tie as tie
 
 -- those before k are counted
-abbrev invariant-loop : tie.invariant-loop
+abbrev invariant-loop : tie.invariant-loop-k
 invariant-loop senders targets s t end count₀ k₀ count k = (k ≤ end) × (count ≤ k) × (count ≡ earlier senders targets s t k)
 
 -- the places that are left
-abbrev decreases-loop : tie.decreases-loop
+abbrev decreases-loop : tie.decreases-loop-k
 decreases-loop senders targets s t end count₀ k₀ count k = end - k
 
-loop-holds : tie.Need-loop-init invariant-loop decreases-loop
+loop-holds : tie.Need-loop-k-init invariant-loop decreases-loop
 loop-holds c = (search rules, search rules, none-earlier _ _ _ _)
 
 -- one more, or none
-loop-again : tie.Need-loop-preserved invariant-loop decreases-loop
+loop-again : tie.Need-loop-k-preserved invariant-loop decreases-loop
 loop-again c =
     let tested = c.before in
     let turn = tested.before.before in
     let args = turn.before.before.before.args in
-    elim c.if1.branch [
+    elim c.if-is_of.branch [
       | inl w ↦
-          let more = one_earlier args.senders.now args.targets.now args.s args.t turn.loop.k (sym tested.is-of.ensures ∙ w.0.taken) in
-          (search rules, omega (arith, w.1, turn.loop.invariant.1), omega (arith, w.1, turn.loop.invariant.2, more))
-      | inr w ↦ (search rules, omega (arith, w.1, turn.loop.invariant.1), w.1 ∙ turn.loop.invariant.2 ∙ sym (same-earlier _ _ _ _ turn.loop.k (sym tested.is-of.ensures ∙ w.0.left)))
+          let more = one_earlier args.senders.now args.targets.now args.s args.t turn.loop-k.k (sym tested.is_of.ensures ∙ w.0.taken) in
+          (search rules, omega (arith, w.1, turn.loop-k.invariant.1), omega (arith, w.1, turn.loop-k.invariant.2, more))
+      | inr w ↦ (search rules, omega (arith, w.1, turn.loop-k.invariant.1), w.1 ∙ turn.loop-k.invariant.2 ∙ sym (same-earlier _ _ _ _ turn.loop-k.k (sym tested.is_of.ensures ∙ w.0.left)))
     ]
 
 returns : tie.Need-returns invariant-loop decreases-loop
-returns c = let turn = c.before in let all : turn.loop.k ≡ turn.before.before.before.args.end = search rules in turn.loop.invariant.2 ∙ ap (earlier _ _ _ _) all
+returns c = let turn = c.before in let all : turn.loop-k.k ≡ turn.before.before.before.args.end = search rules in turn.loop-k.invariant.2 ∙ ap (earlier _ _ _ _) all
 
-pub count-earlier-spec : {M : Type 1} → statement M
-count-earlier-spec = tie.close (tie.spec invariant-loop decreases-loop loop-holds (λ c κs. search rules) (λ c. search rules) (λ c. search rules) (λ c. search rules) loop-again returns)
+pub count_earlier_spec : {M : Type 1} → statement M
+count_earlier_spec = tie.close (tie.spec invariant-loop decreases-loop loop-holds (λ c κs. search rules) (λ c. search rules) (λ c. search rules) (λ c. search rules) loop-again returns)

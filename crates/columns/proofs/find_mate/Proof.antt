@@ -7,7 +7,7 @@ use Rattle.columns.proofs.find_mate.Tie as tie
 -- the place of a rank, which is what was counted
 returns : tie.Need-returns
 unfolding mate_of
-returns c = c.find-rank.ensures ∙ ap (place_of_rank _ _ _ _) c.before.count-earlier.ensures
+returns c = c.find_rank.ensures ∙ ap (place_of_rank _ _ _ _) c.before.count_earlier-rank.ensures
 
-pub find-mate-spec : {M : Type 1} → statement M
-find-mate-spec = tie.close (tie.spec (λ c. search rules) (λ c. search rules) (λ c κs. search rules) (λ c κs. search rules) returns)
+pub find_mate_spec : {M : Type 1} → statement M
+find_mate_spec = tie.close (tie.spec (λ c. search rules) (λ c. search rules) (λ c κs. search rules) (λ c κs. search rules) returns)

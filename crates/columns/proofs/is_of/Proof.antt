@@ -8,5 +8,5 @@ returns : tie.Need-returns
 unfolding is_of
 returns c = refl
 
-pub is-of-spec : {M : Type 1} → statement M
-is-of-spec = tie.close (tie.spec (λ c. search rules) (λ c. search rules) returns)
+pub is_of_spec : {M : Type 1} → statement M
+is_of_spec = tie.close (tie.spec (λ c. search rules) (λ c. search rules) returns)

@@ -9,27 +9,27 @@ use Rattle.commands.proofs.command.Statement.{statement}
 use Rattle.commands.proofs.command.Tie as tie
 
 -- the line is too long
-returns : tie.Need-returns
-returns c = (rw c.wrong.ensures (line-long _ _ _ c.before.before.without-return.ensures c.before.if1.true), refl)
+returns : tie.Need-returns-then-end-gt-LINE_LIMIT
+returns c = (rw c.wrong.ensures (line-long _ _ _ c.before.before.without_return-end.ensures c.before.if-end-gt-LINE_LIMIT.true), refl)
 
 -- without its CR it is its front
-slice-aggregate-read-line : tie.Need-slice-aggregate-read-line
+slice-aggregate-read-line : tie.Need-slice_bounds-read_line-end
 slice-aggregate-read-line c = sym (length-take-le _ _ c.before.before.before.without-return.ensures.within)
 
 -- the table is the grammar
-read-line-requires : tie.Need-read-line-requires
+read-line-requires : tie.Need-read_line-requires
 unfolding grammar concat ascii up_to
 read-line-requires c κs =
     let entry = c.before.before.before.before.before.before.before.before in
     (refl, entry.requires)
 
 -- the front is read
-returns-2 : tie.Need-returns-2
+returns-2 : tie.Need-returns
 returns-2 c =
     let at-read-line = c.before.before in
     let at-if1 = at-read-line.before.before.before.before.before in
     let at-without-return = at-if1.before in
-    (line-short _ _ _ at-without-return.without-return.ensures _ at-if1.if1.false at-read-line.read-line.ensures, search rules)
+    (line-short _ _ _ at-without-return.without-return.ensures _ at-if1.if1.false at-read-line.read_line.ensures, search rules)
 
-pub command-spec : {M : Type 1} → statement M
-command-spec = tie.close (tie.spec (λ c κs. search rules) (λ c κs. search rules) returns slice-aggregate-read-line read-line-requires (λ c. search rules) returns-2)
+pub command_spec : {M : Type 1} → statement M
+command_spec = tie.close (tie.spec (λ c κs. search rules) (λ c κs. search rules) returns slice-aggregate-read-line read-line-requires (λ c. search rules) returns-2)

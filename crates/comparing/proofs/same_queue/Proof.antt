@@ -5,47 +5,47 @@ use lib.ListN.{length}
 use Rattle.comparing.proofs.same_queue.Statement.{statement}
 use Rattle.comparing.proofs.same_queue.Tie as tie
 
-abbrev invariant-loop : tie.invariant-loop
+abbrev invariant-loop : tie.invariant-loop-i
 invariant-loop v w len i₀ i = (i ≤ 32) × (length v ≡ 32) × (length w ≡ 32)
 
-abbrev decreases-loop : tie.decreases-loop
+abbrev decreases-loop : tie.decreases-loop-i
 decreases-loop v w len i₀ i = 32 - i
 
-returns : tie.Need-returns invariant-loop decreases-loop
+returns : tie.Need-returns-then-a-b invariant-loop decreases-loop
 returns c = search rules
 
-cast-len : tie.Need-overflow-cast-len invariant-loop decreases-loop
+cast-len : tie.Need-overflow_cast-len invariant-loop decreases-loop
 cast-len c = search rules
 
-loop-holds : tie.Need-loop-init invariant-loop decreases-loop
+loop-holds : tie.Need-loop-i-init invariant-loop decreases-loop
 loop-holds c = search rules
 
-returns-2 : tie.Need-returns-2 invariant-loop decreases-loop
+returns-2 : tie.Need-returns-then-len-i invariant-loop decreases-loop
 returns-2 c = search rules
 
-array-read-if3 : tie.Need-array-read-if3 invariant-loop decreases-loop
+array-read-if3 : tie.Need-bounds-v-i invariant-loop decreases-loop
 array-read-if3 c = search rules
 
-array-read-if3-2 : tie.Need-array-read-if3-2 invariant-loop decreases-loop
+array-read-if3-2 : tie.Need-bounds-w-i invariant-loop decreases-loop
 array-read-if3-2 c = search rules
 
-returns-3 : tie.Need-returns-3 invariant-loop decreases-loop
+returns-3 : tie.Need-returns-then-v-i invariant-loop decreases-loop
 returns-3 c = search rules
 
-add-i : tie.Need-overflow-add-i invariant-loop decreases-loop
+add-i : tie.Need-overflow_add-i invariant-loop decreases-loop
 add-i c = search rules
 
-loop-less : tie.Need-loop-smaller invariant-loop decreases-loop
+loop-less : tie.Need-loop-i-smaller invariant-loop decreases-loop
 loop-less c = search rules
 
-loop-again : tie.Need-loop-preserved invariant-loop decreases-loop
+loop-again : tie.Need-loop-i-preserved invariant-loop decreases-loop
 loop-again c = search rules
 
-returns-4 : tie.Need-returns-4 invariant-loop decreases-loop
+returns-4 : tie.Need-returns invariant-loop decreases-loop
 returns-4 c = search rules
 
-pub same-queue-spec : {M : Type 1} → statement M
-same-queue-spec =
+pub same_queue_spec : {M : Type 1} → statement M
+same_queue_spec =
     tie.close
     (tie.spec
     invariant-loop

@@ -3,14 +3,14 @@ use borrow.Author.Rules.{rules}
 use Rattle.comparing.proofs.same_rules.Statement.{statement}
 use Rattle.comparing.proofs.same_rules.Tie as tie
 
-abbrev invariant-loop : tie.invariant-loop
+abbrev invariant-loop : tie.invariant-loop-i
 invariant-loop a b i₀ i = i ≤ 64
 
-abbrev decreases-loop : tie.decreases-loop
+abbrev decreases-loop : tie.decreases-loop-i
 decreases-loop a b i₀ i = 64 - i
 
-pub same-rules-spec : {M : Type 1} → statement M
-same-rules-spec =
+pub same_rules_spec : {M : Type 1} → statement M
+same_rules_spec =
     tie.close
     (tie.spec
     invariant-loop

@@ -3,14 +3,14 @@ use borrow.Author.Rules.{rules}
 use Rattle.comparing.proofs.same_table.Statement.{statement}
 use Rattle.comparing.proofs.same_table.Tie as tie
 
-abbrev invariant-loop : tie.invariant-loop
+abbrev invariant-loop : tie.invariant-loop-i
 invariant-loop a b i₀ i = i ≤ 32
 
-abbrev decreases-loop : tie.decreases-loop
+abbrev decreases-loop : tie.decreases-loop-i
 decreases-loop a b i₀ i = 32 - i
 
-pub same-table-spec : {M : Type 1} → statement M
-same-table-spec =
+pub same_table_spec : {M : Type 1} → statement M
+same_table_spec =
     tie.close
     (tie.spec
     invariant-loop

@@ -5,44 +5,44 @@ use borrow.Author.Rules.{rules}
 use Rattle.comparing.proofs.same_words.Statement.{statement}
 use Rattle.comparing.proofs.same_words.Tie as tie
 
-abbrev invariant-loop : tie.invariant-loop
+abbrev invariant-loop : tie.invariant-loop-i
 invariant-loop a b i₀ i = (i ≤ 8) × (length a ≡ 8) × (length b ≡ 8)
 
-abbrev decreases-loop : tie.decreases-loop
+abbrev decreases-loop : tie.decreases-loop-i
 decreases-loop a b i₀ i = 8 - i
 
-loop-holds : tie.Need-loop-init invariant-loop decreases-loop
+loop-holds : tie.Need-loop-i-init invariant-loop decreases-loop
 loop-holds c = search rules
 
-mul-if1 : tie.Need-overflow-mul-if1 invariant-loop decreases-loop
+mul-if1 : tie.Need-offset_bounds-a-i invariant-loop decreases-loop
 mul-if1 c = search rules
 
-array-read-if1 : tie.Need-array-read-if1 invariant-loop decreases-loop
+array-read-if1 : tie.Need-bounds-a-i invariant-loop decreases-loop
 array-read-if1 c = search rules
 
-mul-if1-2 : tie.Need-overflow-mul-if1-2 invariant-loop decreases-loop
+mul-if1-2 : tie.Need-offset_bounds-b-i invariant-loop decreases-loop
 mul-if1-2 c = search rules
 
-array-read-if1-2 : tie.Need-array-read-if1-2 invariant-loop decreases-loop
+array-read-if1-2 : tie.Need-bounds-b-i invariant-loop decreases-loop
 array-read-if1-2 c = search rules
 
-returns : tie.Need-returns invariant-loop decreases-loop
+returns : tie.Need-returns-then-a-i invariant-loop decreases-loop
 returns c = search rules
 
-add-i : tie.Need-overflow-add-i invariant-loop decreases-loop
+add-i : tie.Need-overflow_add-i invariant-loop decreases-loop
 add-i c = search rules
 
-loop-less : tie.Need-loop-smaller invariant-loop decreases-loop
+loop-less : tie.Need-loop-i-smaller invariant-loop decreases-loop
 loop-less c = search rules
 
-loop-again : tie.Need-loop-preserved invariant-loop decreases-loop
+loop-again : tie.Need-loop-i-preserved invariant-loop decreases-loop
 loop-again c = search rules
 
-returns-2 : tie.Need-returns-2 invariant-loop decreases-loop
+returns-2 : tie.Need-returns invariant-loop decreases-loop
 returns-2 c = search rules
 
-pub same-words-spec : {M : Type 1} → statement M
-same-words-spec =
+pub same_words_spec : {M : Type 1} → statement M
+same_words_spec =
     tie.close
     (tie.spec
     invariant-loop

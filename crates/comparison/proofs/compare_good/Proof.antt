@@ -6,11 +6,11 @@ use Rattle.comparison.proofs.compare_good.Tie as tie
 -- ---- places: the ways back from a place to what is known there
 -- room for the columns of sends
 abbrev Sent : Type 0
-Sent = tie.After-empty-column2
+Sent = tie.After-empty_column-to
 
 -- these are read, and there is room for those of receives
 abbrev Received : Type 0
-Received = tie.After-empty-column4
+Received = tie.After-empty_column-receiver
 
 abbrev sent-read : Received → tie.After-read-columns
 sent-read r = r.before.before.before.before.before.before
@@ -20,38 +20,38 @@ sent r = (sent-read r).before.before.before.before.before
 
 -- all are read, and lent again
 abbrev Lent : Type 0
-Lent = tie.After-receivers2
+Lent = tie.After-receivers-2-1
 
-abbrev received-read : Lent → tie.After-read-columns2
+abbrev received-read : Lent → tie.After-read_columns-2
 received-read l = l.before.before.before.before.before.before.before.before
 
 abbrev received : Lent → Received
 received l = (received-read l).before.before.before.before.before
 
 -- ---- the needs
-read-columns-requires : tie.Need-read-columns-requires
+read-columns-requires : tie.Need-read_columns-requires
 read-columns-requires c κs =
     let s : Sent = c.before.before.before.before in
     let good = s.before.before.before.before.requires.0 in
-    (good, (column-room _ _ good.few s.before.empty-column.ensures, column-room _ _ good.few s.empty-column2.ensures))
+    (good, (column-room _ _ good.few s.before.empty_column-from.ensures, column-room _ _ good.few s.empty_column-to.ensures))
 
-read-columns-requires-2 : tie.Need-read-columns-requires-2
+read-columns-requires-2 : tie.Need-read_columns-requires-2
 read-columns-requires-2 c κs =
     let r : Received = c.before.before.before.before in
     let good = (sent r).before.before.before.before.requires.1 in
-    (good, (column-room _ _ good.few r.before.empty-column3.ensures, column-room _ _ good.few r.empty-column4.ensures))
+    (good, (column-room _ _ good.few r.before.empty_column-source.ensures, column-room _ _ good.few r.empty_column-receiver.ensures))
 
-compare-columns-requires : tie.Need-compare-columns-requires
+compare-columns-requires : tie.Need-compare_columns-requires
 compare-columns-requires c κs =
     let r = received c in
     let pre = (sent r).before.before.before.before.pre in
-    (pre.0, (pre.1, ((sent-read r).read-columns.ensures, (received-read c).read-columns2.ensures)))
+    (pre.0, (pre.1, ((sent-read r).read_columns.ensures, (received-read c).read_columns-2.ensures)))
 
 returns : tie.Need-returns
-returns c = c.before.before.before.before.compare-columns.ensures
+returns c = c.before.before.before.before.compare_columns.ensures
 
-pub compare-good-spec : {M : Type 1} → statement M
-compare-good-spec =
+pub compare_good_spec : {M : Type 1} → statement M
+compare_good_spec =
     tie.close
     (tie.spec
     (λ c. search rules)

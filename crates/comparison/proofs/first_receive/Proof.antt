@@ -13,45 +13,45 @@ use Rattle.comparison.proofs.first_receive.Statement.{statement}
 use Rattle.comparison.proofs.first_receive.Tie as tie
 
 -- every receive before j was sent
-abbrev invariant-loop : tie.invariant-loop
+abbrev invariant-loop : tie.invariant-loop-j
 invariant-loop senders targets sources receivers j₀ j =
     (j ≤ length sources) × ((sends receives : List Logged) → Columns sends senders targets → Columns receives sources receivers → (k : ℕ) → k < j → receive_unsent sends receives k ≡ false)
 
 -- the receives that are left
-abbrev decreases-loop : tie.decreases-loop
+abbrev decreases-loop : tie.decreases-loop-j
 decreases-loop senders targets sources receivers j₀ j = length sources - j
 
 -- the send of its rank is looked for: the way back to the top of the loop
 abbrev Found : Type 0
-Found = tie.After-find-mate invariant-loop decreases-loop
+Found = tie.After-find_mate-i invariant-loop decreases-loop
 
-abbrev top : Found → tie.At-loop invariant-loop decreases-loop
+abbrev top : Found → tie.At-loop-j invariant-loop decreases-loop
 top f = f.before.before
 
-loop-holds : tie.Need-loop-init invariant-loop decreases-loop
+loop-holds : tie.Need-loop-j-init invariant-loop decreases-loop
 loop-holds c = (search rules, λ sends receives sent received k l. absurd (omega arith))
 
 -- it was not
-returns : tie.Need-returns invariant-loop decreases-loop
+returns : tie.Need-returns-then-senders-i invariant-loop decreases-loop
 returns c sends receives sent received =
     let turn = top c.before in
-    first-here _ _ _ turn.loop.j received.many (search rules) (receive-unsent _ _ _ _ _ _ sent received turn.loop.j _ (search rules) c.before.find-mate.ensures c.if1.true) (turn.loop.inv.1 sends receives sent received)
+    first-here _ _ _ turn.loop-j.j received.many (search rules) (receive-unsent _ _ _ _ _ _ sent received turn.loop-j.j _ (search rules) c.before.find_mate-i.ensures c.if-senders-i.true) (turn.loop-j.inv.1 sends receives sent received)
 
-loop-again : tie.Need-loop-preserved invariant-loop decreases-loop
+loop-again : tie.Need-loop-j-preserved invariant-loop decreases-loop
 loop-again c =
     let turn = top c.before in (
       search rules,
-      λ sends receives sent received k l. same? k turn.loop.j
-          (λ e. rw e (receive-sent _ _ _ _ _ _ sent received turn.loop.j _ (search rules) c.before.find-mate.ensures (search rules)))
-          (λ d. turn.loop.inv.1 sends receives sent received k (omega arith)),
+      λ sends receives sent received k l. same? k turn.loop-j.j
+          (λ e. rw e (receive-sent _ _ _ _ _ _ sent received turn.loop-j.j _ (search rules) c.before.find_mate-i.ensures (search rules)))
+          (λ d. turn.loop-j.inv.1 sends receives sent received k (omega arith)),
     )
 
 -- all were
-returns-2 : tie.Need-returns-2 invariant-loop decreases-loop
-returns-2 c sends receives sent received = let turn = c.before in first-nowhere _ _ _ turn.loop.j received.many (search rules) (turn.loop.invariant.1 sends receives sent received)
+returns-2 : tie.Need-returns invariant-loop decreases-loop
+returns-2 c sends receives sent received = let turn = c.before in first-nowhere _ _ _ turn.loop-j.j received.many (search rules) (turn.loop-j.invariant.1 sends receives sent received)
 
-pub first-receive-spec : {M : Type 1} → statement M
-first-receive-spec =
+pub first_receive_spec : {M : Type 1} → statement M
+first_receive_spec =
     tie.close
     (tie.spec
     invariant-loop

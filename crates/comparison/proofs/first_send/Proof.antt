@@ -12,21 +12,21 @@ use Rattle.comparison.proofs.first_send.Statement.{statement}
 use Rattle.comparison.proofs.first_send.Tie as tie
 
 -- no send before i differs; the columns of each log are as long as each other, and not above 512
-abbrev invariant-loop : tie.invariant-loop
+abbrev invariant-loop : tie.invariant-loop-i
 invariant-loop senders targets sources receivers sends receives i₀ i =
     ((k : ℕ) → k < i → send_differs (entries_of sends) (entries_of receives) k ≡ false) × (length sends.entries ≡ 512) × (length receives.entries ≡ 512) × (i ≤ length senders)
     × (length senders ≤ 512) × (length senders ≡ length targets) × (length sources ≤ 512) × (length sources ≡ length receivers)
 
 -- the sends that are left
-abbrev decreases-loop : tie.decreases-loop
+abbrev decreases-loop : tie.decreases-loop-i
 decreases-loop senders targets sources receivers sends receives i₀ i = length senders - i
 
 -- ---- places
 -- the receive of its rank is looked for: the way back to the top of the loop
 abbrev Found : Type 0
-Found = tie.After-find-mate invariant-loop decreases-loop
+Found = tie.After-find_mate-j invariant-loop decreases-loop
 
-abbrev top : Found → tie.At-loop invariant-loop decreases-loop
+abbrev top : Found → tie.At-loop-i invariant-loop decreases-loop
 top f = f.before.before
 
 -- both messages are compared, and this decides
@@ -34,15 +34,15 @@ abbrev Compared : Type 0
 Compared = tie.After-same-message invariant-loop decreases-loop
 
 decided : (m : Compared) → let p = top m.before.before.before.before in let args = p.before.before.before.before.before.args in
-    send_differs (entries_of args.t1) (entries_of args.t2) p.loop.i ≡ not m.same-message.result
+    send_differs (entries_of args.t1) (entries_of args.t2) p.loop-i.i ≡ not m.same_message.result
 decided m =
     let f = m.before.before.before.before in
     let turn = top f in
     let pre = turn.before.before.before.before.before.pre in
-    send-found _ _ _ _ _ _ pre.1.1.0 pre.1.1.1 turn.loop.inv.1 turn.loop.inv.2 pre.0 pre.1.0 turn.loop.i _ (search rules) f.find-mate.ensures (search rules) ∙ ap not (sym m.same-message.ensures)
+    send-found _ _ _ _ _ _ pre.1.1.0 pre.1.1.1 turn.loop-i.inv.1 turn.loop-i.inv.2 pre.0 pre.1.0 turn.loop-i.i _ (search rules) f.find_mate-j.ensures (search rules) ∙ ap not (sym m.same_message.ensures)
 
 -- ---- the needs
-loop-holds : tie.Need-loop-init invariant-loop decreases-loop
+loop-holds : tie.Need-loop-i-init invariant-loop decreases-loop
 loop-holds c =
     let start = c.before.before.before.before in
     let args = start.args in
@@ -54,47 +54,47 @@ loop-holds c =
     (λ k l. absurd (omega arith), whole, all, search rules, column-few args.t1 _ _ whole pre.0 sent, sent.many ∙ sym sent.as_many, column-few args.t2 _ _ all pre.1.0 received, received.many ∙ sym received.as_many)
 
 -- it has none
-returns : tie.Need-returns invariant-loop decreases-loop
+returns : tie.Need-returns-then-sources-j invariant-loop decreases-loop
 returns c =
     let turn = top c.before in
     let start = turn.before.before.before.before.before in
     let pre = start.pre in
-    first-here _ _ _ turn.loop.i pre.1.1.0.many (search rules) (send-alone _ _ _ _ _ _ pre.1.1.0 pre.1.1.1 turn.loop.i _ (search rules) c.before.find-mate.ensures c.if1.true) turn.loop.inv.0
+    first-here _ _ _ turn.loop-i.i pre.1.1.0.many (search rules) (send-alone _ _ _ _ _ _ pre.1.1.0 pre.1.1.1 turn.loop-i.i _ (search rules) c.before.find_mate-j.ensures c.if-sources-j.true) turn.loop-i.inv.0
 
-element-copy-out-sent : tie.Need-element-copy-out-sent invariant-loop decreases-loop
+element-copy-out-sent : tie.Need-bounds-sends-i invariant-loop decreases-loop
 element-copy-out-sent c = search rules
 
-element-copy-out-received : tie.Need-element-copy-out-received invariant-loop decreases-loop
+element-copy-out-received : tie.Need-bounds-receives-j invariant-loop decreases-loop
 element-copy-out-received c = search rules
 
-same-message-requires : tie.Need-same-message-requires invariant-loop decreases-loop
+same-message-requires : tie.Need-same_message-requires invariant-loop decreases-loop
 same-message-requires c κs =
     let f = c.before.before.before in
     let turn = top f in
     let start = turn.before.before.before.before.before in
     let pre = start.pre in
-    (column-small start.args.t1 _ _ turn.loop.inv.1 pre.0 pre.1.1.0 turn.loop.i (search rules), column-small start.args.t2 _ _ turn.loop.inv.2 pre.1.0 pre.1.1.1 f.find-mate.result (search rules))
+    (column-small start.args.t1 _ _ turn.loop-i.inv.1 pre.0 pre.1.1.0 turn.loop-i.i (search rules), column-small start.args.t2 _ _ turn.loop-i.inv.2 pre.1.0 pre.1.1.1 f.find_mate-j.result (search rules))
 
 -- it differs
-returns-2 : tie.Need-returns-2 invariant-loop decreases-loop
+returns-2 : tie.Need-returns-then-not-same_message invariant-loop decreases-loop
 returns-2 c =
     let f = c.before.before.before.before.before in
     let turn = top f in
-    first-here _ _ _ turn.loop.i turn.before.before.before.before.before.pre.1.1.0.many (search rules) (decided c.before ∙ c.if2.true) turn.loop.inv.0
+    first-here _ _ _ turn.loop-i.i turn.before.before.before.before.before.pre.1.1.0.many (search rules) (decided c.before ∙ c.if-not-same_message.true) turn.loop-i.inv.0
 
-loop-again : tie.Need-loop-preserved invariant-loop decreases-loop
+loop-again : tie.Need-loop-i-preserved invariant-loop decreases-loop
 loop-again c =
     let f = c.before.before.before.before.before in
     let turn = top f in
-    let inv = turn.loop.inv in
-    (λ k l. same? k turn.loop.i (λ e. rw e (decided c.before ∙ c.if2.false)) (λ d. inv.0 k (omega arith)), inv.1, inv.2, search rules, search rules, search rules, search rules, search rules)
+    let inv = turn.loop-i.inv in
+    (λ k l. same? k turn.loop-i.i (λ e. rw e (decided c.before ∙ c.if-not-same_message.false)) (λ d. inv.0 k (omega arith)), inv.1, inv.2, search rules, search rules, search rules, search rules, search rules)
 
 -- none does
-returns-3 : tie.Need-returns-3 invariant-loop decreases-loop
-returns-3 c = let turn = c.before in first-nowhere _ _ _ turn.loop.i turn.before.before.before.before.before.requires.1.1.0.many (search rules) turn.loop.invariant.0
+returns-3 : tie.Need-returns invariant-loop decreases-loop
+returns-3 c = let turn = c.before in first-nowhere _ _ _ turn.loop-i.i turn.before.before.before.before.before.requires.1.1.0.many (search rules) turn.loop-i.invariant.0
 
-pub first-send-spec : {M : Type 1} → statement M
-first-send-spec =
+pub first_send_spec : {M : Type 1} → statement M
+first_send_spec =
     tie.close
     (tie.spec
     invariant-loop

@@ -11,34 +11,34 @@ use Rattle.comparison.proofs.is_good.Statement.{statement}
 use Rattle.comparison.proofs.is_good.Tie as tie
 
 -- the entries before i have at most 8 words
-abbrev invariant-loop : tie.invariant-loop
+abbrev invariant-loop : tie.invariant-loop-i
 invariant-loop log len i₀ i = (i ≤ len) × (length log.entries ≡ 512) × ((k : ℕ) → k < i → (get_or log.entries k no_entry).count ≤ word_limit)
 
 -- the entries that are left
-abbrev decreases-loop : tie.decreases-loop
+abbrev decreases-loop : tie.decreases-loop-i
 decreases-loop log len i₀ i = len - i
 
-returns : tie.Need-returns invariant-loop decreases-loop
+returns : tie.Need-returns-then-log-gt-LOG_ROOM invariant-loop decreases-loop
 returns c = too_long _ (search rules)
 
-loop-holds : tie.Need-loop-init invariant-loop decreases-loop
+loop-holds : tie.Need-loop-i-init invariant-loop decreases-loop
 loop-holds c = (search rules, entries-whole c.before.args.t1 _ c.before.well-formed.0, λ k l. absurd (omega arith))
 
-returns-2 : tie.Need-returns-2 invariant-loop decreases-loop
+returns-2 : tie.Need-returns-then-entry-gt-WORD_LIMIT invariant-loop decreases-loop
 returns-2 c =
     let turn = c.before.before.before.before in
-    too_many turn.before.before.args.t1 turn.loop.invariant.1 (search rules) turn.loop.i (search rules) c.if2.true
+    too_many turn.before.before.args.t1 turn.loop-i.invariant.1 (search rules) turn.loop-i.i (search rules) c.if-entry-gt-WORD_LIMIT.true
 
-loop-again : tie.Need-loop-preserved invariant-loop decreases-loop
+loop-again : tie.Need-loop-i-preserved invariant-loop decreases-loop
 loop-again c =
     let turn = c.before.before.before.before in
-    (search rules, turn.loop.invariant.1, λ k l. same? k turn.loop.i (λ e. rw e c.if2.false) (λ d. turn.loop.invariant.2 k (omega arith)))
+    (search rules, turn.loop-i.invariant.1, λ k l. same? k turn.loop-i.i (λ e. rw e c.if-entry-gt-WORD_LIMIT.false) (λ d. turn.loop-i.invariant.2 k (omega arith)))
 
-returns-3 : tie.Need-returns-3 invariant-loop decreases-loop
-returns-3 c = let turn = c.before in not-bad turn.before.before.args.t1 turn.loop.invariant.1 (search rules) (λ i l. turn.loop.invariant.2 i (search rules))
+returns-3 : tie.Need-returns invariant-loop decreases-loop
+returns-3 c = let turn = c.before in not-bad turn.before.before.args.t1 turn.loop-i.invariant.1 (search rules) (λ i l. turn.loop-i.invariant.2 i (search rules))
 
-pub is-good-spec : {M : Type 1} → statement M
-is-good-spec =
+pub is_good_spec : {M : Type 1} → statement M
+is_good_spec =
     tie.close
     (tie.spec
     invariant-loop

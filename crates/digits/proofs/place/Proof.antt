@@ -8,16 +8,16 @@ use Rattle.digits.proofs.Places.{Placed, placed-none, placed-more, placed-small,
 use Rattle.digits.proofs.place.Statement.{statement}
 use Rattle.digits.proofs.place.Tie as tie
 
-abbrev invariant-loop : tie.invariant-loop
+abbrev invariant-loop : tie.invariant-loop-i
 invariant-loop n outcomes p₀ i₀ p i = Placed n outcomes i p
 
-abbrev decreases-loop : tie.decreases-loop
+abbrev decreases-loop : tie.decreases-loop-i
 decreases-loop n outcomes p₀ i₀ p i = i
 
 -- ---- the places of the code from which the needs below speak
 -- in the loop
 abbrev Turn : Type 0
-Turn = tie.In-loop invariant-loop decreases-loop
+Turn = tie.In-loop-i invariant-loop decreases-loop
 
 abbrev entry : Turn → tie.Start invariant-loop decreases-loop
 entry w = w.before.before
@@ -30,38 +30,38 @@ abbrev turn : Read → Turn
 turn d = d.before.before.before
 
 -- with it, one outcome more is read
-more : (d : Read) → Placed (entry (turn d)).args.n (entry (turn d)).args.t2 ((turn d).before.loop.i - 1) (d.digit.result + 8 * (turn d).before.loop.p)
+more : (d : Read) → Placed (entry (turn d)).args.n (entry (turn d)).args.t2 ((turn d).before.loop-i.i - 1) (d.digit.result + 8 * (turn d).before.loop-i.p)
 more d =
     let w = turn d in
-    placed-more (entry w).pre w.before.loop.i w.before.loop.p d.digit.result w.loop-test.taken (d.digit.ensures ∙ ap (λ (z : ℤ). digit_of z) (search rules)) w.before.loop.inv
+    placed-more (entry w).pre w.before.loop-i.i w.before.loop-i.p d.digit.result w.loop-i-test.taken (d.digit.ensures ∙ ap (λ (z : ℤ). digit_of z) (search rules)) w.before.loop-i.inv
 
 -- ---- the needs
-loop-holds : tie.Need-loop-init invariant-loop decreases-loop
+loop-holds : tie.Need-loop-i-init invariant-loop decreases-loop
 loop-holds c = placed-none c.requires
 
-mul-outcome : tie.Need-overflow-mul-outcome invariant-loop decreases-loop
-mul-outcome c = record { fits = omega (arith, c.before.loop.invariant.0, (entry c).requires.few) }
+mul-outcome : tie.Need-offset_bounds-outcomes-i invariant-loop decreases-loop
+mul-outcome c = record { fits = omega (arith, c.before.loop-i.invariant.0, (entry c).requires.few) }
 
-array-copy-out-outcome : tie.Need-array-copy-out-outcome invariant-loop decreases-loop
-array-copy-out-outcome c = omega (arith, c.before.loop.invariant.0, (entry c).requires.few, c.loop-test.true)
+array-copy-out-outcome : tie.Need-bounds-outcomes-i invariant-loop decreases-loop
+array-copy-out-outcome c = omega (arith, c.before.loop-i.invariant.0, (entry c).requires.few, c.loop-i-test.true)
 
-mul-p : tie.Need-overflow-mul-p invariant-loop decreases-loop
-mul-p c = let w = turn c in record { fits = omega (arith, placed-small (entry w).pre _ _ w.before.loop.inv) }
+mul-p : tie.Need-overflow_mul-p invariant-loop decreases-loop
+mul-p c = let w = turn c in record { fits = omega (arith, placed-small (entry w).pre _ _ w.before.loop-i.inv) }
 
-add-p : tie.Need-overflow-add-p invariant-loop decreases-loop
+add-p : tie.Need-overflow_add-p invariant-loop decreases-loop
 add-p c = record { fits = omega (arith, placed-small (entry (turn c)).pre _ _ (more c)) }
 
-loop-less : tie.Need-loop-smaller invariant-loop decreases-loop
-loop-less c = omega (arith, (turn c).loop-test.true)
+loop-less : tie.Need-loop-i-smaller invariant-loop decreases-loop
+loop-less c = omega (arith, (turn c).loop-i-test.true)
 
-loop-again : tie.Need-loop-preserved invariant-loop decreases-loop
+loop-again : tie.Need-loop-i-preserved invariant-loop decreases-loop
 loop-again c = more c
 
 returns : tie.Need-returns invariant-loop decreases-loop
-returns c = placed-all c.before.before.requires c.before.loop.i c.before.loop.p (omega (arith, c.loop-test.false)) c.before.loop.invariant
+returns c = placed-all c.before.before.requires c.before.loop-i.i c.before.loop-i.p (omega (arith, c.loop-i-test.false)) c.before.loop-i.invariant
 
-pub place-spec : {M : Type 1} → statement M
-place-spec =
+pub place_spec : {M : Type 1} → statement M
+place_spec =
     tie.close
     (tie.spec
     invariant-loop

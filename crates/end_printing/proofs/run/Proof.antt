@@ -3,7 +3,7 @@ use Rattle.end_printing.proofs.Filling.{some-input}
 use Rattle.end_printing.proofs.run.Statement.{statement}
 use Rattle.end_printing.proofs.run.Tie as tie
 
-print-text-requires : tie.Need-print-text-requires
+print-text-requires : tie.Need-print_text-requires
 print-text-requires c κs =
     let text = c.before.before.before.before.before.before.text-of-input in
     some-input _ text.new.1.1.1.0 text.result.length _ text.ensures.1.1

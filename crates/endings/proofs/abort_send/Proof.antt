@@ -14,12 +14,12 @@ returns : tie.Need-returns
 unfolding own_after other_after
 returns c =
     let entry = c.before.before.before in
-    let ends = c.before.before.end-with-code.ensures ∙ ap (λ (z : ℤ). ended (code_only z) entry.args.own) (to_z-of_z entry.ranges.code) in
+    let ends = c.before.before.end_with_code-ended.ensures ∙ ap (λ (z : ℤ). ended (code_only z) entry.args.own) (to_z-of_z entry.ranges.code) in
     record {
-      own = ap (λ (h : Thread). entering release h) (c.before.drop-receive.ensures ∙ ap (λ (h : Thread). without_receive h) ends);
-      other = c.depart.ensures;
+      own = ap (λ (h : Thread). entering release h) (c.before.drop_receive-mine.ensures ∙ ap (λ (h : Thread). without_receive h) ends);
+      other = c.depart-theirs.ensures;
     }
 
-pub abort-send-spec : {M : Type 1} → statement M
-abort-send-spec =
+pub abort_send_spec : {M : Type 1} → statement M
+abort_send_spec =
     tie.close (tie.spec (λ c κs. search rules) (λ c κs. search rules) (λ c κs. search rules) returns)

@@ -4,7 +4,7 @@ use Rattle.engine.proofs.begin.Tie as tie
 
 -- what `begin_via` promises of this entry
 returns : tie.Need-returns
-returns c = c.before.before.begin-via.ensures
+returns c = c.before.before.begin_via.ensures
 
-pub begin-spec : {M : Type 1} → statement M
-begin-spec = tie.close (tie.spec (λ c κs. search rules) (λ c. search rules) returns)
+pub begin_spec : {M : Type 1} → statement M
+begin_spec = tie.close (tie.spec (λ c κs. search rules) (λ c. search rules) returns)

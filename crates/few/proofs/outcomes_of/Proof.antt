@@ -11,8 +11,8 @@ returns c =
     let s = c.before.before.before.before.before.before.before.before in
     ap (λ (l : List Thread). map (λ (h : Thread). h.outcome) l) (whole_four s.args.t1.threads zero_thread (simp length-map at s.well-formed.0.1.1.1.0.1.0.1))
 
-pub outcomes-of-spec : {M : Type 1} → statement M
-outcomes-of-spec =
+pub outcomes_of_spec : {M : Type 1} → statement M
+outcomes_of_spec =
     tie.close
     (tie.spec
     (λ c. search rules)

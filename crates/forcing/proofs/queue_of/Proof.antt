@@ -6,15 +6,15 @@ use Rattle.forcing.proofs.queue_of.Statement.{statement}
 use Rattle.forcing.proofs.queue_of.Tie as tie
 
 -- at most 32 places are filled
-abbrev invariant-loop : tie.invariant-loop
+abbrev invariant-loop : tie.invariant-loop-i
 invariant-loop named items₀ i₀ items i = (i ≤ 32) × (length items ≡ 32)
 
 -- how many places are left
-abbrev decreases-loop : tie.decreases-loop
+abbrev decreases-loop : tie.decreases-loop-i
 decreases-loop named items₀ i₀ items i = 32 - i
 
-pub queue-of-spec : {M : Type 1} → statement M
-queue-of-spec =
+pub queue_of_spec : {M : Type 1} → statement M
+queue_of_spec =
     tie.close
     (tie.spec
     invariant-loop

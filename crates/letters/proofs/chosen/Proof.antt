@@ -7,30 +7,30 @@ use Rattle.letters.proofs.chosen.Statement.{statement}
 use Rattle.letters.proofs.chosen.Tie as tie
 
 -- the word `yes`
-returns : tie.Need-returns
+returns : tie.Need-returns-then-is_word
 unfolding choice_digits ascii up_to
 returns c =
     let compared = c.before.before.before in
     rw (sym compared.is_IsWord.ensures ∙ c.before.before.if1.true) c.measured.ensures
 
 -- the word `no`
-returns-2 : tie.Need-returns-2
+returns-2 : tie.Need-returns-then-is_word-2
 unfolding choice_digits ascii up_to
 returns-2 c =
     let again = c.before.before.before in
     let compared = again.before.before.before in
-    rw (sym compared.is_IsWord.ensures ∙ again.before.before.if1.false, sym again.is-word2.ensures ∙ c.before.before.if2.true) c.measured2.ensures
+    rw (sym compared.is_IsWord.ensures ∙ again.before.before.if1.false, sym again.is-word2.ensures ∙ c.before.before.if2.true) c.measured-then-is_word-2.ensures
 
 -- neither
-returns-3 : tie.Need-returns-3
+returns-3 : tie.Need-returns
 unfolding choice_digits ascii up_to
 returns-3 c =
     let again = c.before.before.before in
     let compared = again.before.before.before in
-    rw (sym compared.is_IsWord.ensures ∙ again.before.before.if1.false, sym again.is-word2.ensures ∙ c.before.before.if2.false) c.measured3.ensures
+    rw (sym compared.is_IsWord.ensures ∙ again.before.before.if1.false, sym again.is-word2.ensures ∙ c.before.before.if2.false) c.measured-2.ensures
 
-pub chosen-spec : {M : Type 1} → statement M
-chosen-spec =
+pub chosen_spec : {M : Type 1} → statement M
+chosen_spec =
     tie.close
     (tie.spec
     (λ c. search rules)

@@ -6,42 +6,42 @@ use Rattle.letters.proofs.measured.Statement.{statement}
 use Rattle.letters.proofs.measured.Tie as tie
 
 -- what is no number
-returns : tie.Need-returns
+returns : tie.Need-returns-then-not-read
 returns c =
     let tested = c.before in
     let at-number = tested.before.before in
-    measured-none _ _ at-number.number.ensures (not-true at-number.number.result.digits tested.if1.true) _ c.reason-for.ensures
+    measured-none _ _ at-number.number-read.ensures (not-true at-number.number-read.result.digits tested.if-not-read.true) _ c.reason_for.ensures
 
 -- one that is too large
-returns-2 : tie.Need-returns-2
+returns-2 : tie.Need-returns-then-largest_of-value
 returns-2 c =
     let at-if1 = c.before.before in
     let at-number = at-if1.before.before in
-    measured-large _ _ at-number.number.ensures (not-false at-number.number.result.digits at-if1.if1.false) (rw c.before.largest-of.ensures at c.if2.true)
+    measured-large _ _ at-number.number-read.ensures (not-false at-number.number-read.result.digits at-if1.if-not-read.false) (rw c.before.largest_of.ensures at c.if-largest_of-value.true)
 
 -- one that is too small
-returns-3 : tie.Need-returns-3
+returns-3 : tie.Need-returns-then-value-least_of
 returns-3 c =
     let at-if2 = c.before.before in
     let at-largest-of = at-if2.before in
     let at-if1 = at-largest-of.before in
     let at-number = at-if1.before.before in
-    measured-small _ _ at-number.number.ensures (not-false at-number.number.result.digits at-if1.if1.false) (rw at-largest-of.largest-of.ensures at at-if2.if2.false) (rw c.before.least-of.ensures at c.if3.true)
+    measured-small _ _ at-number.number-read.ensures (not-false at-number.number-read.result.digits at-if1.if-not-read.false) (rw at-largest-of.largest_of.ensures at at-if2.if-largest_of-value.false) (rw c.before.least_of.ensures at c.if-value-least_of.true)
 
 -- what is not above the largest fits
-cast-t8 : tie.Need-overflow-cast-t8
+cast-t8 : tie.Need-overflow_cast-result
 cast-t8 c =
     let entry = c.before.before.before.before.before.before.before.before in
     omega (arith, largest-below entry.args.letter)
 
 -- one that is neither
-returns-4 : tie.Need-returns-4
+returns-4 : tie.Need-returns
 returns-4 c =
     let at-if2 = c.before.before in
     let at-largest-of = at-if2.before in
     let at-if1 = at-largest-of.before in
     let at-number = at-if1.before.before in
-    measured_fine _ _ at-number.number.ensures (not-false at-number.number.result.digits at-if1.if1.false) (rw at-largest-of.largest-of.ensures at at-if2.if2.false) (rw c.before.least-of.ensures at c.if3.false)
+    measured_fine _ _ at-number.number-read.ensures (not-false at-number.number-read.result.digits at-if1.if-not-read.false) (rw at-largest-of.largest_of.ensures at at-if2.if-largest_of-value.false) (rw c.before.least_of.ensures at c.if-value-least_of.false)
 
-pub measured-spec : {M : Type 1} → statement M
-measured-spec = tie.close (tie.spec (λ c κs. search rules) (λ c κs. search rules) returns (λ c κs. search rules) returns-2 (λ c κs. search rules) returns-3 cast-t8 returns-4)
+pub measured_spec : {M : Type 1} → statement M
+measured_spec = tie.close (tie.spec (λ c κs. search rules) (λ c κs. search rules) returns (λ c κs. search rules) returns-2 (λ c κs. search rules) returns-3 cast-t8 returns-4)

@@ -4,29 +4,29 @@ use Rattle.letters.proofs.most_more.Statement.{statement}
 use Rattle.letters.proofs.most_more.Tie as tie
 
 -- ticks
-returns : tie.Need-returns
+returns : tie.Need-returns-then-letter-eq-TICKS
 unfolding most_more
-returns c = rw (eq-eqb _ _ c.if1.true)
+returns c = rw (eq-eqb _ _ c.if-letter-eq-TICKS.true)
 
 -- a queue
-returns-2 : tie.Need-returns-2
+returns-2 : tie.Need-returns-then-letter-eq-QUEUED
 unfolding most_more
-returns-2 c = rw (ne_eqb _ _ c.before.if1.false, eq-eqb _ _ c.if2.true)
+returns-2 c = rw (ne_eqb _ _ c.before.if-letter-eq-TICKS.false, eq-eqb _ _ c.if-letter-eq-QUEUED.true)
 
 -- bytes
-returns-3 : tie.Need-returns-3
+returns-3 : tie.Need-returns-then-letter-eq-BYTE
 unfolding most_more
-returns-3 c = rw (ne_eqb _ _ c.before.before.if1.false, ne_eqb _ _ c.before.if2.false, eq-eqb _ _ c.if3.true)
+returns-3 c = rw (ne_eqb _ _ c.before.before.if-letter-eq-TICKS.false, ne_eqb _ _ c.before.if-letter-eq-QUEUED.false, eq-eqb _ _ c.if-letter-eq-BYTE.true)
 
 -- words
-returns-4 : tie.Need-returns-4
+returns-4 : tie.Need-returns-then-letter-eq-WORD
 unfolding most_more
-returns-4 c = rw (ne_eqb _ _ c.before.before.before.if1.false, ne_eqb _ _ c.before.before.if2.false, ne_eqb _ _ c.before.if3.false, eq-eqb _ _ c.if4.true)
+returns-4 c = rw (ne_eqb _ _ c.before.before.before.if-letter-eq-TICKS.false, ne_eqb _ _ c.before.before.if-letter-eq-QUEUED.false, ne_eqb _ _ c.before.if-letter-eq-BYTE.false, eq-eqb _ _ c.if-letter-eq-WORD.true)
 
 -- any other
-returns-5 : tie.Need-returns-5
+returns-5 : tie.Need-returns
 unfolding most_more
-returns-5 c = rw (ne_eqb _ _ c.before.before.before.if1.false, ne_eqb _ _ c.before.before.if2.false, ne_eqb _ _ c.before.if3.false, ne_eqb _ _ c.if4.false)
+returns-5 c = rw (ne_eqb _ _ c.before.before.before.if-letter-eq-TICKS.false, ne_eqb _ _ c.before.before.if-letter-eq-QUEUED.false, ne_eqb _ _ c.before.if-letter-eq-BYTE.false, ne_eqb _ _ c.if-letter-eq-WORD.false)
 
-pub most-more-spec : {M : Type 1} → statement M
-most-more-spec = tie.close (tie.spec returns returns-2 returns-3 returns-4 returns-5)
+pub most_more_spec : {M : Type 1} → statement M
+most_more_spec = tie.close (tie.spec returns returns-2 returns-3 returns-4 returns-5)

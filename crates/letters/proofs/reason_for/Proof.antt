@@ -5,14 +5,14 @@ use Rattle.letters.proofs.reason_for.Statement.{statement}
 use Rattle.letters.proofs.reason_for.Tie as tie
 
 -- yes or no
-returns : tie.Need-returns
+returns : tie.Need-returns-then-letter-eq-CHOICE
 unfolding reason_for takes_choice
-returns c = rw (eq-eqb _ _ c.if1.true)
+returns c = rw (eq-eqb _ _ c.if-letter-eq-CHOICE.true)
 
 -- any other
-returns-2 : tie.Need-returns-2
+returns-2 : tie.Need-returns
 unfolding reason_for takes_choice
-returns-2 c = rw (ne_eqb _ _ c.if1.false)
+returns-2 c = rw (ne_eqb _ _ c.if-letter-eq-CHOICE.false)
 
-pub reason-for-spec : {M : Type 1} → statement M
-reason-for-spec = tie.close (tie.spec returns returns-2)
+pub reason_for_spec : {M : Type 1} → statement M
+reason_for_spec = tie.close (tie.spec returns returns-2)

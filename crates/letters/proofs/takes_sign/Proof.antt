@@ -8,5 +8,5 @@ returns : tie.Need-returns
 unfolding takes_sign
 returns c = refl
 
-pub takes-sign-spec : {M : Type 1} → statement M
-takes-sign-spec = tie.close (tie.spec returns)
+pub takes_sign_spec : {M : Type 1} → statement M
+takes_sign_spec = tie.close (tie.spec returns)

@@ -298,9 +298,9 @@ module _ {M : Type 1} {𝓤 : Ura M} (𝓛 : Logic 𝓤) (at_mem : Memory → SP
   meets 𝓣 answers borrows = walk_Meets 𝓛 outcome.ended stayed goes Promises (Body 𝓣) (WpFn-mono 𝓤 H 𝓛.laws 𝓣 code.function) (walks 𝓣 answers borrows)
 
 -- the function meets its contract
-pub outcome-spec : {M : Type 1} → stated.statement M
+pub outcome_spec : {M : Type 1} → stated.statement M
 unfolding code.routine tables_of
-outcome-spec 𝓤 𝓛 𝓜 𝓡 =
+outcome_spec 𝓤 𝓛 𝓜 𝓡 =
     entered 𝓤 𝓛.H (triple_of 𝓛 outcome.signature (outcome.spec 𝓛 𝓜.mem 𝓡.run))
     (tables 𝓤 𝓛.H 𝓜 𝓡 code.env).C (tables 𝓤 𝓛.H 𝓜 𝓡 code.env).Λ key.name code.function (code.unfolded 𝓤 𝓛.H 𝓜 𝓡)
     (meets 𝓛 𝓜.mem 𝓡.run (tables_of 𝓤 𝓛.H 𝓜 (tables 𝓤 𝓛.H 𝓜 𝓡 code.env))

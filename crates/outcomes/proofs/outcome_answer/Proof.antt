@@ -12,35 +12,35 @@ use Rattle.outcomes.proofs.outcome_answer.Statement.{statement}
 use Rattle.outcomes.proofs.outcome_answer.Tie as tie
 
 -- once the arguments are tested: the way back to the entry
-abbrev entry : tie.After-argument-refusal → tie.Start
+abbrev entry : tie.After-argument_refusal-second → tie.Start
 entry c = c.before.before.before.before
 
 -- the number found is the one by which the call is refused
-number : (c : tie.After-argument-refusal) → c.argument-refusal.result ≡ refusal (step (entry c).args.thread) (state (entry c).args.t1 (entry c).args.store.now)
+number : (c : tie.After-argument_refusal-second) → c.argument_refusal-second.result ≡ refusal (step (entry c).args.thread) (state (entry c).args.t1 (entry c).args.store.now)
 unfolding later_rows
-number c = later-number _ _ _ c.before.before.table-refusal.ensures c.before.if1.false _ (c.argument-refusal.ensures _ refl)
+number c = later-number _ _ _ c.before.before.table_refusal-first.ensures c.before.if-first-ne0.false _ (c.argument_refusal-second.ensures _ refl)
 
 -- where it is 0, the thread is in the array
-own-there : (c : tie.After-argument-refusal) → c.argument-refusal.result ≡ 0 → (entry c).args.thread < 32
+own-there : (c : tie.After-argument_refusal-second) → c.argument_refusal-second.result ≡ 0 → (entry c).args.thread < 32
 own-there c z =
     let t = (entry c).args.t1 in
-    omega (arith, table-few t _ c.before.before.table-refusal.ensures c.before.if1.false, place-below t _ _ _ (c.argument-refusal.ensures t refl) z)
+    omega (arith, table-few t _ c.before.before.table_refusal-first.ensures c.before.if-first-ne0.false, place-below t _ _ _ (c.argument_refusal-second.ensures t refl) z)
 
 -- the table is refused
-returns : tie.Need-returns
-returns c = outcome-refused _ c.before.before.before.args.thread _ (table-number _ _ _ c.before.table-refusal.ensures c.if1.true) c.if1.true
+returns : tie.Need-returns-then-first-ne0
+returns c = outcome-refused _ c.before.before.before.args.thread _ (table-number _ _ _ c.before.table_refusal-first.ensures c.if-first-ne0.true) c.if-first-ne0.true
 
 -- the arguments are
-returns-2 : tie.Need-returns-2
-returns-2 c = outcome-refused _ _ _ (number c.before) c.if2.true
+returns-2 : tie.Need-returns-then-second-ne0
+returns-2 c = outcome-refused _ _ _ (number c.before) c.if-second-ne0.true
 
-element-copy-out-own : tie.Need-element-copy-out-own
-element-copy-out-own c = own-there c.before c.if2.false
+element-copy-out-own : tie.Need-bounds-table-i
+element-copy-out-own c = own-there c.before c.if-second-ne0.false
 
 -- nothing is refused
-returns-3 : tie.Need-returns-3
+returns-3 : tie.Need-returns
 unfolding at
-returns-3 c = let tested = c.before.before in outcome-shown _ _ _ (number tested.before) tested.if2.false
+returns-3 c = let tested = c.before.before in outcome-shown _ _ _ (number tested.before) tested.if-second-ne0.false
 
-pub outcome-answer-spec : {M : Type 1} → statement M
-outcome-answer-spec = tie.close (tie.spec (λ c κs. search rules) returns (λ c κs. search rules) returns-2 (λ c. search rules) element-copy-out-own returns-3)
+pub outcome_answer_spec : {M : Type 1} → statement M
+outcome_answer_spec = tie.close (tie.spec (λ c κs. search rules) returns (λ c κs. search rules) returns-2 (λ c. search rules) element-copy-out-own returns-3)

@@ -6,21 +6,21 @@ use Rattle.phases.proofs.Settled.{settled}
 use Rattle.phases.proofs.in_lock.Statement.{statement}
 use Rattle.phases.proofs.in_lock.Tie as tie
 
-take-lock-requires : tie.Need-take-lock-requires
+take-lock-requires : tie.Need-take_lock-requires
 take-lock-requires c κs = search rules
 
-returns : tie.Need-returns
+returns : tie.Need-returns-then-other-eq-NOBODY
 returns c =
     let a = c.before.before.before.args in
-    settled _ _ _ _ (lock-takes a.x a.own a.other c.before.if1.true) c.take-lock.ensures
+    settled _ _ _ _ (lock-takes a.x a.own a.other c.before.if-other-eq-NOBODY.true) c.take_lock.ensures
 
-stay-with-requires : tie.Need-stay-with-requires
+stay-with-requires : tie.Need-stay_with-requires
 stay-with-requires c κs = search rules
 
-returns-2 : tie.Need-returns-2
+returns-2 : tie.Need-returns
 returns-2 c =
     let a = c.before.before.before.args in
-    settled _ _ _ _ (lock-wants a.x a.own a.other c.before.if1.false) (c.stay-with.ensures a.x wants refl)
+    settled _ _ _ _ (lock-wants a.x a.own a.other c.before.if-other-eq-NOBODY.false) (c.stay_with.ensures a.x wants refl)
 
-pub in-lock-spec : {M : Type 1} → statement M
-in-lock-spec = tie.close (tie.spec take-lock-requires returns stay-with-requires returns-2)
+pub in_lock_spec : {M : Type 1} → statement M
+in_lock_spec = tie.close (tie.spec take-lock-requires returns stay-with-requires returns-2)

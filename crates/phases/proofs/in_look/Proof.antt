@@ -8,38 +8,38 @@ use Rattle.phases.proofs.Settled.{settled}
 use Rattle.phases.proofs.in_look.Statement.{statement}
 use Rattle.phases.proofs.in_look.Tie as tie
 
-go-idle-requires : tie.Need-go-idle-requires
+go-idle-requires : tie.Need-go_idle-requires
 go-idle-requires c κs = search rules
 
-returns : tie.Need-returns
+returns : tie.Need-returns-then-not-flags
 returns c =
     let a = c.before.before.before.before.args in
-    settled _ _ _ _ (look-ended a.x a.own a.other (not-true a.own.flags.ipc c.before.if1.true)) (c.go-idle.ensures a.x)
+    settled _ _ _ _ (look-ended a.x a.own a.other (not-true a.own.flags-1.ipc c.before.if-not-flags.true)) (c.go_idle.ensures a.x)
 
-end-by-requires : tie.Need-end-by-requires
+end-by-requires : tie.Need-end_by-requires
 end-by-requires c κs = search rules
 
-returns-2 : tie.Need-returns-2
+returns-2 : tie.Need-returns-then-flags
 returns-2 c =
     let a = c.before.before.before.before.before.args in
-    settled _ _ _ _ (look-cancelled a.x a.own a.other (not-false a.own.flags.ipc c.before.before.if1.false) c.before.if2.true) (c.end_by.ensures a.x _ refl)
+    settled _ _ _ _ (look-cancelled a.x a.own a.other (not-false a.own.flags-1.ipc c.before.before.if-not-flags.false) c.before.if-flags.true) (c.end_by.ensures a.x _ refl)
 
-look-alone-requires : tie.Need-look-alone-requires
+look-alone-requires : tie.Need-look_alone-requires
 unfolding found_as
-look-alone-requires c κs = record { runs = not-false c.before.before.before.before.before.args.own.flags.ipc c.before.before.if1.false; unmarked = c.before.if2.false; found = c.before.before.before.before.before.requires ∙ cond-true _ _ _ (eq-eqb _ _ c.if3.true) }
+look-alone-requires c κs = record { runs = not-false c.before.before.before.before.before.args.own.flags.ipc c.before.before.if-not-flags.false; unmarked = c.before.if-flags.false; found = c.before.before.before.before.before.requires ∙ cond-true _ _ _ (eq-eqb _ _ c.if-o-eq-NOBODY.true) }
 
-returns-3 : tie.Need-returns-3
+returns-3 : tie.Need-returns-then-o-eq-NOBODY
 returns-3 c = search rules
 
-look-at-sender-requires : tie.Need-look-at-sender-requires
+look-at-sender-requires : tie.Need-look_at_sender-requires
 unfolding found_as
-look-at-sender-requires c κs = record { runs = not-false c.before.before.before.before.before.args.own.flags.ipc c.before.before.if1.false; unmarked = c.before.if2.false; found = c.before.before.before.before.before.requires ∙ cond-false _ _ _ (ne_eqb _ _ c.if3.false) }
+look-at-sender-requires c κs = record { runs = not-false c.before.before.before.before.before.args.own.flags.ipc c.before.before.if-not-flags.false; unmarked = c.before.if-flags.false; found = c.before.before.before.before.before.requires ∙ cond-false _ _ _ (ne_eqb _ _ c.if-o-eq-NOBODY.false) }
 
-returns-4 : tie.Need-returns-4
+returns-4 : tie.Need-returns
 returns-4 c = search rules
 
-pub in-look-spec : {M : Type 1} → statement M
-in-look-spec =
+pub in_look_spec : {M : Type 1} → statement M
+in_look_spec =
     tie.close
     (tie.spec
     go-idle-requires

@@ -3,17 +3,17 @@ use Rattle.played_text.proofs.Refusing.{refused-written}
 use Rattle.played_text.proofs.refused_text.Statement.{statement}
 use Rattle.played_text.proofs.refused_text.Tie as tie
 
-bad-line-requires : tie.Need-bad-line-requires
+bad-line-requires : tie.Need-bad_line-requires
 bad-line-requires c κs = search rules
 
-same_length : tie.Need-same-length
+same_length : tie.Need-shape_of-out
 same_length c = search rules
 
 returns : tie.Need-returns
 returns c =
-    let bad-line-tells = c.before.before.bad-line.ensures in
+    let bad-line-tells = c.before.before.bad_line.ensures in
     let asked = c.before.before.before.before.before.before.requires in
     refused-written _ _ _ _ _ asked.0 asked.1 bad-line-tells
 
-pub refused-text-spec : {M : Type 1} → statement M
-refused-text-spec = tie.close (tie.spec bad-line-requires same_length returns)
+pub refused_text_spec : {M : Type 1} → statement M
+refused_text_spec = tie.close (tie.spec bad-line-requires same_length returns)

@@ -10,56 +10,56 @@ use Rattle.played_text.proofs.text_of.Statement.{statement}
 use Rattle.played_text.proofs.text_of.Tie as tie
 
 -- once the table record was read and not refused: the playback is that of this record, and its store is the first of the zeros
-starts : (c : tie.After-start) → Starts c.before.before.before.«open».result.playback c.before.before.before.before.before.before.args.bytes.now
+starts : (c : tie.After-start-1) → Starts c.before.before.before.«open».result.playback c.before.before.before.before.before.before.args.bytes.now
 starts c =
     let opening = c.before.before.before.«open».ensures in
-    let accepted = c.before.if1.false in
+    let accepted = c.before.if-opened-ne0.false in
     opening_starts _ _ (sym opening.0 ∙ accepted) opening.1.0 (opening.1.1 accepted).0
 
-stored : (c : tie.After-start) → let t = c.before.before.before.«open».result.playback in Stored t (8 * t.table.n) (zeros 256)
-stored c = stored-first _ _ (c.before.before.before.«open».ensures.1.1 c.before.if1.false).1 refl
+stored : (c : tie.After-start-1) → let t = c.before.before.before.«open».result.playback in Stored t (8 * t.table.n) (zeros 256)
+stored c = stored-first _ _ (c.before.before.before.«open».ensures.1.1 c.before.if-opened-ne0.false).1 refl
 
 -- from where it was played, and where it ended, back to there
-abbrev began : tie.After-play → tie.After-start
+abbrev began : tie.After-play-played → tie.After-start-1
 began c = c.before.before.before.before
 
-returns : tie.Need-returns
-returns c = all_of_them _ c.before.before.refused-text.ensures
+returns : tie.Need-returns-then-opened-ne0
+returns c = all_of_them _ c.before.before.refused_text.ensures
 
-array-borrow-prefix-words : tie.Need-array-borrow-prefix-words
+array-borrow-prefix-words : tie.Need-slice_bounds-words-end
 array-borrow-prefix-words c = words-there (stored c.before)
 
-slice-aggregate-play : tie.Need-slice-aggregate-play
+slice-aggregate-play : tie.Need-slice_bounds-play-end
 slice-aggregate-play c = sym (words-length (stored c.before.before))
 
-sub-play : tie.Need-overflow-sub-play
+sub-play : tie.Need-slice_bounds-play-count
 sub-play c = (starts c.before.before).four
 
-part-play-start : tie.Need-slice-bounds-play-start
+part-play-start : tie.Need-slice_bounds-play-start
 part-play-start c = (starts c.before.before).four
 
-play-requires : tie.Need-play-requires
+play-requires : tie.Need-play-played-requires
 play-requires c κs = let start = c.before.before.before in playable (starts start) (stored start) (search rules)
 
-sub-left : tie.Need-overflow-sub-left
-sub-left c = let played = c.before.before in place-within (starts (began played)) (stored (began played)) _ _ _ played.play.ensures.0 played.play.ensures.1
+sub-left : tie.Need-overflow_sub-left
+sub-left c = let played = c.before.before in place-within (starts (began played)) (stored (began played)) _ _ _ played.play-played.ensures.0 played.play-played.ensures.1
 
-array-share-prefix-words : tie.Need-array-share-prefix-words
+array-share-prefix-words : tie.Need-slice_bounds-words-end-2
 array-share-prefix-words c =
     let played = c.before.before in
-    let S = stored_on (stored (began played)) _ _ _ played.play.ensures.1 in
+    let S = stored_on (stored (began played)) _ _ _ played.play-played.ensures.1 in
     omega (arith, words-there S, S.array)
 
-slice-aggregate-end-text : tie.Need-slice-aggregate-end-text
-slice-aggregate-end-text c = let played = c.before.before.before in sym (words-length (stored_on (stored (began played)) _ _ _ played.play.ensures.1))
+slice-aggregate-end-text : tie.Need-slice_bounds-end_text-end
+slice-aggregate-end-text c = let played = c.before.before.before in sym (words-length (stored_on (stored (began played)) _ _ _ played.play-played.ensures.1))
 
-returns-2 : tie.Need-returns-2
+returns-2 : tie.Need-returns
 returns-2 c =
     let played = c.before.before.before.before.before.before.before in
-    whole-written (starts (began played)) (stored (began played)) _ _ _ played.play.ensures.0 played.play.ensures.1 _ _ _ _ refl c.before.before.end-text.ensures
+    whole-written (starts (began played)) (stored (began played)) _ _ _ played.play-played.ensures.0 played.play-played.ensures.1 _ _ _ _ refl c.before.before.end_text.ensures
 
-pub text-of-spec : {M : Type 1} → statement M
-text-of-spec =
+pub text_of_spec : {M : Type 1} → statement M
+text_of_spec =
     tie.close
     (tie.spec
     (λ c κs. search rules)

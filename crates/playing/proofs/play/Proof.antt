@@ -21,25 +21,25 @@ use Rattle.playing.proofs.play.Statement.{statement}
 use Rattle.playing.proofs.play.Tie as tie
 
 -- in a tick: the first k threads are ticked
-abbrev invariant-loop2 : tie.invariant-loop2
+abbrev invariant-loop2 : tie.invariant-loop-k
 invariant-loop2 from store bytes now₀ n size records refused at kind x k₀ now k = (k ≤ size) × (size ≤ 32) × (now ≡ edit_below k ticked now₀)
 
 -- each time round one thread fewer is left
-abbrev decreases-loop2 : tie.decreases-loop2
+abbrev decreases-loop2 : tie.decreases-loop-k
 decreases-loop2 from store bytes now₀ n size records refused at kind x k₀ now k = size - k
 
 -- each turn: the records up to this place are played
-abbrev invariant-loop : tie.invariant-loop
+abbrev invariant-loop : tie.invariant-loop-record
 invariant-loop from store₀ bytes now₀ n size records₀ refused₀ at₀ store now records refused at = Goes from store₀ bytes n store now records refused at
 
 -- each turn fewer bytes are left
-abbrev decreases-loop : tie.decreases-loop
+abbrev decreases-loop : tie.decreases-loop-record
 decreases-loop from store₀ bytes now₀ n size records₀ refused₀ at₀ store now records refused at = length bytes - at
 
 -- ---- the places of the code of which this proof speaks: for each the way back to one before it, and what is known there
 -- the top of the loop
 abbrev Top : Type 0
-Top = tie.At-loop invariant-loop2 decreases-loop2 invariant-loop decreases-loop
+Top = tie.At-loop-record invariant-loop2 decreases-loop2 invariant-loop decreases-loop
 
 abbrev start : Top → tie.Start invariant-loop2 decreases-loop2 invariant-loop decreases-loop
 start l = l.before.before.before.before
@@ -50,53 +50,53 @@ bytes l = (start l).args.bytes.now
 
 -- a turn: a lawful record comes next
 abbrev Turn : Type 0
-Turn = tie.Then1 invariant-loop2 decreases-loop2 invariant-loop decreases-loop
+Turn = tie.In-loop-record invariant-loop2 decreases-loop2 invariant-loop decreases-loop
 
 abbrev top : Turn → Top
 top t = t.before.before.before
 
 -- the bytes from this record on
 abbrev rest : Turn → List ℕ
-rest t = from_place (bytes (top t)) (top t).loop.at
+rest t = from_place (bytes (top t)) (top t).loop-record.at
 
 -- they start with a lawful record
 good : (t : Turn) → lawful false (front (rest t)) ≡ true
-good t = sym t.before.is_lawful.ensures ∙ t.if1.taken
+good t = sym t.before.is_lawful.ensures ∙ t.loop-record-test.taken
 
 -- so its head is there
 head : (t : Turn) → 4 ≤ length (rest t)
-head t = head-there (top t).loop.inv (good t)
+head t = head-there (top t).loop-record.inv (good t)
 
 -- its length is known
 abbrev Measured : Type 0
-Measured = tie.After-record-length invariant-loop2 decreases-loop2 invariant-loop decreases-loop
+Measured = tie.After-record_length-at invariant-loop2 decreases-loop2 invariant-loop decreases-loop
 
 abbrev turn : Measured → Turn
 turn m = m.before.before.before.before
 
 -- the place behind it
 abbrev to : Measured → ℕ
-to m = (top (turn m)).loop.at + m.record-length.result
+to m = (top (turn m)).loop-record.at + m.record_length-at.result
 
 -- by the length of its kind
-passes : (m : Measured) → to m ≡ (top (turn m)).loop.at + record_length (kind_byte (rest (turn m)))
-passes m = ap (λ (k : ℕ). (top (turn m)).loop.at + k) m.record-length.ensures
+passes : (m : Measured) → to m ≡ (top (turn m)).loop-record.at + record_length (kind_byte (rest (turn m)))
+passes m = ap (λ (k : ℕ). (top (turn m)).loop-record.at + k) m.record_length-at.ensures
 
 -- fewer bytes are left from there on
-fewer : (m : Measured) → length (bytes (top (turn m))) - to m < length (bytes (top (turn m))) - (top (turn m)).loop.at
-fewer m = fewer-left (top (turn m)).loop.inv (good (turn m)) (to m) (passes m)
+fewer : (m : Measured) → length (bytes (top (turn m))) - to m < length (bytes (top (turn m))) - (top (turn m)).loop-record.at
+fewer m = fewer-left (top (turn m)).loop-record.inv (good (turn m)) (to m) (passes m)
 
 -- one refused call more can be counted
-one_more : (m : Measured) → (top (turn m)).loop.refused + 1 < 18446744073709551616
-one_more m = refused-fit (top (turn m)).loop.inv (good (turn m))
+one_more : (m : Measured) → (top (turn m)).loop-record.refused + 1 < 18446744073709551616
+one_more m = refused-fit (top (turn m)).loop-record.inv (good (turn m))
 
 -- a tick: every thread is ticked
-abbrev ticks : tie.After-loop2 invariant-loop2 decreases-loop2 invariant-loop decreases-loop → Measured
+abbrev ticks : tie.After-loop-k invariant-loop2 decreases-loop2 invariant-loop decreases-loop → Measured
 ticks k = k.before.before.before
 
 -- a call of a thread of the table
 abbrev Below : Type 0
-Below = tie.Else3 invariant-loop2 decreases-loop2 invariant-loop decreases-loop
+Below = tie.Else-n-x invariant-loop2 decreases-loop2 invariant-loop decreases-loop
 
 abbrev measured : Below → Measured
 measured b = b.before.before
@@ -107,19 +107,19 @@ x b = thread_byte (rest (turn (measured b)))
 
 -- the state before the call
 abbrev was : Below → State
-was b = let l = top (turn (measured b)) in state l.loop.now l.loop.store
+was b = let l = top (turn (measured b)) in state l.loop-record.now l.loop-record.store
 
 -- its table has as many threads as the first one
 sized : (b : Below) → (was b).table.n ≡ (start (top (turn (measured b)))).args.from.table.n
-sized b = (top (turn (measured b))).loop.inv.size
+sized b = (top (turn (measured b))).loop-record.inv.size
 
 -- and has its shape
 shaped : (b : Below) → Shaped (was b).table
-shaped b = (top (turn (measured b))).loop.inv.runnable.checked.shaped
+shaped b = (top (turn (measured b))).loop-record.inv.runnable.checked.shaped
 
 -- a step of the thread may run
 runs : (b : Below) → refusal (step (x b)) (was b) ≡ 0
-runs b = let t = turn (measured b) in step-runs (top t).loop.inv (good t) b.if3.left
+runs b = let t = turn (measured b) in step-runs (top t).loop-record.inv (good t) b.if-n-x.left
 
 -- so it is in the array
 own-there : (b : Below) → x b < 32
@@ -127,14 +127,14 @@ own-there b = in_array (x b) (was b) (runs b) (shaped b)
 
 -- a step
 abbrev Steps : Type 0
-Steps = tie.Then4 invariant-loop2 decreases-loop2 invariant-loop decreases-loop
+Steps = tie.Then-kind-eq-STEP invariant-loop2 decreases-loop2 invariant-loop decreases-loop
 
 abbrev below : Steps → Below
 below s = s.before
 
 -- a step of a thread whose lock is free: both threads' numbers are known
 abbrev Both : Type 0
-Both = tie.After-other-or-own invariant-loop2 decreases-loop2 invariant-loop decreases-loop
+Both = tie.After-other_or_own-j invariant-loop2 decreases-loop2 invariant-loop decreases-loop
 
 abbrev steps : Both → Steps
 steps p = p.before.before.before.before.before
@@ -146,20 +146,20 @@ own p = let b = below (steps p) in at (was b).table (x b)
 -- its lock is free
 free : (p : Both) → (own p).owner ≡ nobody
 unfolding at
-free p = p.before.before.if5.left
+free p = p.before.before.if-own.left
 
 -- the other thread of its step was looked for
-finds : (p : Both) → p.before.other-number.result ≡ other (own p)
+finds : (p : Both) → p.before.other_number-other_number.result ≡ other (own p)
 unfolding at
-finds p = p.before.other-number.ensures
+finds p = p.before.other_number-other_number.ensures
 
 -- and what is read for it is in the array
-other-there : (p : Both) → p.other-or-own.result < 32
-other-there p = let b = below (steps p) in other-in-array (x b) (was b) (runs b) (shaped b) _ _ (finds p) p.other-or-own.ensures
+other-there : (p : Both) → p.other_or_own-j.result < 32
+other-there p = let b = below (steps p) in other-in-array (x b) (was b) (runs b) (shaped b) _ _ (finds p) p.other_or_own-j.ensures
 
 -- the two threads have stepped
 abbrev Stepped : Type 0
-Stepped = tie.After-step-threads invariant-loop2 decreases-loop2 invariant-loop decreases-loop
+Stepped = tie.After-step_threads-change invariant-loop2 decreases-loop2 invariant-loop decreases-loop
 
 abbrev both : Stepped → Both
 both d = d.before.before.before
@@ -169,13 +169,13 @@ stepping d = below (steps (both d))
 
 -- something ends with the step
 abbrev Ends : Type 0
-Ends = tie.Then6 invariant-loop2 decreases-loop2 invariant-loop decreases-loop
+Ends = tie.Then-is_ending invariant-loop2 decreases-loop2 invariant-loop decreases-loop
 
 abbrev stepped : Ends → Stepped
 stepped e = e.before.before.before.before
 
 -- both threads are as the ending leaves them, and not yet in the table
-abbrev ends : tie.After-mine2 invariant-loop2 decreases-loop2 invariant-loop decreases-loop → Ends
+abbrev ends : tie.After-mine-then-is_ending-1 invariant-loop2 decreases-loop2 invariant-loop decreases-loop → Ends
 ends f = f.before.before.before.before.before
 
 -- nothing ends with it: the other thread is changed in the table
@@ -191,7 +191,7 @@ half f = f.before
 
 -- a cancel
 abbrev Cancels : Type 0
-Cancels = tie.Then7 invariant-loop2 decreases-loop2 invariant-loop decreases-loop
+Cancels = tie.Then-kind-eq-CANCEL invariant-loop2 decreases-loop2 invariant-loop decreases-loop
 
 abbrev cancelling : Cancels → Below
 cancelling k = k.before.before.before
@@ -202,7 +202,7 @@ cancels f = f.before.before.before
 
 -- a begin: no tick, no step and no cancel
 abbrev Begin : Type 0
-Begin = tie.Else7 invariant-loop2 decreases-loop2 invariant-loop decreases-loop
+Begin = tie.Else-kind-eq-CANCEL invariant-loop2 decreases-loop2 invariant-loop decreases-loop
 
 abbrev beginning : Begin → Below
 beginning e = e.before.before.before
@@ -216,18 +216,18 @@ asks a = a.before.before
 
 -- the number that they give, whatever the rules
 unruled-rows : (a : Asked) → let b = beginning (asks a) in
-    a.begin-refusal.result ≡ first_refusal (unruled_rows Main (was b).table (x b) a.before.operation-at.result)
+    a.begin_refusal.result ≡ first_refusal (unruled_rows Main (was b).table (x b) a.before.operation_at-op.result)
 unfolding at
-unruled-rows a = a.begin-refusal.ensures _ (sized (beginning (asks a))) refl
+unruled-rows a = a.begin_refusal.ensures _ (sized (beginning (asks a))) refl
 
 -- no rules are loaded, so it is the number of all rows
 rows : (a : Asked) → let b = beginning (asks a) in
-    a.begin-refusal.result ≡ first_refusal (begin_rows Main (was b).table (x b) a.before.operation-at.result)
-rows a = let b = beginning (asks a) in unruled-rows a ∙ sym (without-rules Main (was b).table (x b) _ (top (turn (measured b))).loop.inv.unruled)
+    a.begin_refusal.result ≡ first_refusal (begin_rows Main (was b).table (x b) a.before.operation_at-op.result)
+rows a = let b = beginning (asks a) in unruled-rows a ∙ sym (without-rules Main (was b).table (x b) _ (top (turn (measured b))).loop-record.inv.unruled)
 
 -- none refuses it
 abbrev Begins : Type 0
-Begins = tie.Else9 invariant-loop2 decreases-loop2 invariant-loop decreases-loop
+Begins = tie.Else-begin_refusal-ne0 invariant-loop2 decreases-loop2 invariant-loop decreases-loop
 
 abbrev asked : Begins → Asked
 asked g = g.before
@@ -236,21 +236,21 @@ abbrev starting : Begins → Below
 starting g = beginning (asks (asked g))
 
 -- so it may run
-accepted : (g : Begins) → refusal (begin (x (starting g)) (asked g).before.operation-at.result) (was (starting g)) ≡ 0
+accepted : (g : Begins) → refusal (begin (x (starting g)) (asked g).before.operation_at-op.result) (was (starting g)) ≡ 0
 accepted g =
     let b = starting g in let t = turn (measured b) in
-    begin-runs (top t).loop.inv (good t) b.if3.left _ _ (rows (asked g)) g.if9.left
+    begin-runs (top t).loop-record.inv (good t) b.if-n-x.left _ _ (rows (asked g)) g.if-begin_refusal-ne0.left
 
 -- the thread whose queue is joined is known
 abbrev Joins : Type 0
-Joins = tie.After-joined-thread invariant-loop2 decreases-loop2 invariant-loop decreases-loop
+Joins = tie.After-joined_thread-j invariant-loop2 decreases-loop2 invariant-loop decreases-loop
 
 abbrev begins : Joins → Begins
 begins j = j.before.before.before.before.before
 
 -- and is in the array
-joined-there : (j : Joins) → j.joined-thread.result < 32
-joined-there j = let g = begins j in joined-in_array _ _ _ (accepted g) _ (sized (starting g)) _ j.joined-thread.ensures
+joined-there : (j : Joins) → j.joined_thread-j.result < 32
+joined-there j = let g = begins j in joined-in_array _ _ _ (accepted g) _ (sized (starting g)) _ j.joined_thread-j.ensures
 
 -- the thread is in that queue
 abbrev Joined : Type 0
@@ -264,164 +264,164 @@ abbrev joined : tie.After-begin-own invariant-loop2 decreases-loop2 invariant-lo
 joined f = f.before.before
 
 -- the loop is left: no lawful record comes next
-abbrev last : tie.Else1 invariant-loop2 decreases-loop2 invariant-loop decreases-loop → Top
+abbrev last : tie.After-loop-record invariant-loop2 decreases-loop2 invariant-loop decreases-loop → Top
 last o = o.before.before.before
 
 -- ---- the loop is reached, and a record is read
-loop-holds : tie.Need-loop-init invariant-loop2 decreases-loop2 invariant-loop decreases-loop
+loop-holds : tie.Need-loop-record-init invariant-loop2 decreases-loop2 invariant-loop decreases-loop
 loop-holds c = goes_first _ _ _ c.before.before.before.requires
 
-add_at : tie.Need-overflow-add-at invariant-loop2 decreases-loop2 invariant-loop decreases-loop
+add_at : tie.Need-overflow_add-at invariant-loop2 decreases-loop2 invariant-loop decreases-loop
 add_at c =
-    let t = turn c in let so_far = (top t).loop.inv in
-    omega (arith, record_within so_far (good t), c.record-length.ensures, so_far.room)
+    let t = turn c in let so_far = (top t).loop-record.inv in
+    omega (arith, record_within so_far (good t), c.record_length-at.ensures, so_far.room)
 
 -- ---- a tick
-loop2-holds : tie.Need-loop2-init invariant-loop2 decreases-loop2 invariant-loop decreases-loop
-loop2-holds c = (search rules, few-threads (top (turn c.before)).loop.inv, none-ticked _)
+loop2-holds : tie.Need-loop-k-init invariant-loop2 decreases-loop2 invariant-loop decreases-loop
+loop2-holds c = (search rules, few-threads (top (turn c.before)).loop-record.inv, none-ticked _)
 
-loop2-again : tie.Need-loop2-preserved invariant-loop2 decreases-loop2 invariant-loop decreases-loop
+loop2-again : tie.Need-loop-k-preserved invariant-loop2 decreases-loop2 invariant-loop decreases-loop
 unfolding at put
-loop2-again c = (search rules, search rules, one-more-ticked _ _ _ _ c.before.before.before.loop2.invariant.2 c.tick-thread.ensures)
+loop2-again c = (search rules, search rules, one-more-ticked _ _ _ _ c.before.before.before.loop-k.invariant.2 c.tick_thread.ensures)
 
-loop-again : tie.Need-loop-preserved invariant-loop2 decreases-loop2 invariant-loop decreases-loop
+loop-again : tie.Need-loop-record-preserved-then-kind-eq-TICK invariant-loop2 decreases-loop2 invariant-loop decreases-loop
 loop-again c =
-    let m = ticks c in let t = turn m in let so_far = (top t).loop.inv in let done = c.before.loop2.invariant in
-    way_tick so_far (good t) (to m) (passes m) c.before.before.if2.true _ _
+    let m = ticks c in let t = turn m in let so_far = (top t).loop-record.inv in let done = c.before.loop-k.invariant in
+    way_tick so_far (good t) (to m) (passes m) c.before.before.if-kind-eq-TICK.true _ _
     (tick-performed _ (tick-runs so_far (good t)) _ (all-ticked _ _ _ done.2 (omega (arith, done.0, so_far.size))))
 
 -- ---- a call of no thread
 loop-again-2 : tie.Need-loop-preserved-2 invariant-loop2 decreases-loop2 invariant-loop decreases-loop
 loop-again-2 c =
     let m = c.before.before in let t = turn m in
-    way_beyond (top t).loop.inv (good t) (to m) (passes m) c.before.if2.false c.if3.true
+    way_beyond (top t).loop-record.inv (good t) (to m) (passes m) c.before.if-kind-eq-TICK.false c.if-n-x.true
 
 -- ---- a step
 loop-again-3 : tie.Need-loop-preserved-3 invariant-loop2 decreases-loop2 invariant-loop decreases-loop
 unfolding at
 loop-again-3 c =
     let s = c.before.before.before in let b = below s in let m = measured b in let t = turn m in
-    way_step (top t).loop.inv (good t) (to m) (passes m) b.if3.left s.if4.true _ _ _
-    (held_stays _ _ (runs b) (shaped b) c.if5.true)
+    way_step (top t).loop-record.inv (good t) (to m) (passes m) b.if-n-x.left s.if-kind-eq-STEP.true _ _ _
+    (held_stays _ _ (runs b) (shaped b) c.if-own.true)
 
-other-number-requires : tie.Need-other-number-requires invariant-loop2 decreases-loop2 invariant-loop decreases-loop
+other-number-requires : tie.Need-other_number-other_number-requires invariant-loop2 decreases-loop2 invariant-loop decreases-loop
 unfolding at
 other-number-requires c κs = let b = below c.before.before.before in queue-fits _ _ (runs b) (shaped b)
 
-part-step-threads-end : tie.Need-slice-bounds-step-threads-end invariant-loop2 decreases-loop2 invariant-loop decreases-loop
+part-step-threads-end : tie.Need-slice_bounds-step_threads-end invariant-loop2 decreases-loop2 invariant-loop decreases-loop
 part-step-threads-end c =
     let p = c.before in let b = below (steps p) in
-    slice-ends _ _ (runs b) (shaped b) _ _ (finds p) p.other-or-own.ensures
+    slice-ends _ _ (runs b) (shaped b) _ _ (finds p) p.other_or_own-j.ensures
 
-step-threads-requires : tie.Need-step-threads-requires invariant-loop2 decreases-loop2 invariant-loop decreases-loop
+step-threads-requires : tie.Need-step_threads-change-requires invariant-loop2 decreases-loop2 invariant-loop decreases-loop
 unfolding at
 step-threads-requires c κs =
     let p = c.before.before in let b = below (steps p) in (
-      fits-here _ _ (runs b) (shaped b) _ _ (finds p) p.other-or-own.ensures,
-      slice-eight _ _ (runs b) (shaped b) _ _ (finds p) p.other-or-own.ensures,
+      fits-here _ _ (runs b) (shaped b) _ _ (finds p) p.other_or_own-j.ensures,
+      slice-eight _ _ (runs b) (shaped b) _ _ (finds p) p.other_or_own-j.ensures,
     )
 
 -- something ends with it
-end-threads-requires : tie.Need-end-threads-requires invariant-loop2 decreases-loop2 invariant-loop decreases-loop
+end-threads-requires : tie.Need-end_threads-both-requires invariant-loop2 decreases-loop2 invariant-loop decreases-loop
 unfolding at
 end-threads-requires c κs =
     let d = stepped c.before.before in let p = both d in let b = stepping d in
-    ending-waits _ _ (runs b) (shaped b) _ _ (finds p) p.other-or-own.ensures (free p) d.step-threads.result d.step-threads.ensures.0
+    ending-waits _ _ (runs b) (shaped b) _ _ (finds p) p.other_or_own-j.ensures (free p) d.step_threads-change.result d.step_threads-change.ensures.0
 
 loop-again-4 : tie.Need-loop-preserved-4 invariant-loop2 decreases-loop2 invariant-loop decreases-loop
 unfolding at put
 loop-again-4 c =
     let e = ends c in let d = stepped e in let p = both d in let b = stepping d in let m = measured b in let t = turn m in
-    way_step (top t).loop.inv (good t) (to m) (passes m) b.if3.left (steps p).if4.taken _ _ _
-    (stepped-to-end _ _ (runs b) (shaped b) _ _ (finds p) p.other-or-own.ensures (free p)
-    d.step-threads.result d.step-threads.ensures.0 _ d.step-threads.ensures.1 _ _
-    (sym e.if6.taken ∙ e.before.is-ending.ensures) c.before.before.end-threads.ensures)
+    way_step (top t).loop-record.inv (good t) (to m) (passes m) b.if-n-x.left (steps p).if-kind-eq-STEP.taken _ _ _
+    (stepped-to-end _ _ (runs b) (shaped b) _ _ (finds p) p.other_or_own-j.ensures (free p)
+    d.step_threads-change.result d.step_threads-change.ensures.0 _ d.step_threads-change.ensures.1 _ _
+    (sym e.if-is_ending.taken ∙ e.before.is_ending.ensures) c.before.before.end_threads-both.ensures)
 
 -- nothing ends with it
 loop-again-5 : tie.Need-loop-preserved-5 invariant-loop2 decreases-loop2 invariant-loop decreases-loop
 unfolding at put
 loop-again-5 c =
     let h = half c in let d = on h in let p = both d in let b = stepping d in let m = measured b in let t = turn m in
-    way_step (top t).loop.inv (good t) (to m) (passes m) b.if3.left (steps p).if4.taken _ _ _
-    (stepped_on _ _ (runs b) (shaped b) _ _ (finds p) p.other-or-own.ensures (free p)
-    d.step-threads.result d.step-threads.ensures.0 _ d.step-threads.ensures.1 _ _
-    (sym h.before.if6.left ∙ h.before.before.is-ending.ensures) c.change-own.ensures h.change-other.ensures)
+    way_step (top t).loop-record.inv (good t) (to m) (passes m) b.if-n-x.left (steps p).if-kind-eq-STEP.taken _ _ _
+    (stepped_on _ _ (runs b) (shaped b) _ _ (finds p) p.other_or_own-j.ensures (free p)
+    d.step_threads-change.result d.step_threads-change.ensures.0 _ d.step_threads-change.ensures.1 _ _
+    (sym h.before.if-is_ending.left ∙ h.before.before.is_ending.ensures) c.change_own.ensures h.change_other.ensures)
 
 -- ---- a cancel
 loop-again-6 : tie.Need-loop-preserved-6 invariant-loop2 decreases-loop2 invariant-loop decreases-loop
 unfolding at
 loop-again-6 c =
     let k = c.before.before in let b = cancelling k in let m = measured b in let t = turn m in
-    way_owned (top t).loop.inv (good t) (to m) (passes m) b.if3.left k.if7.true c.if8.true
+    way_owned (top t).loop-record.inv (good t) (to m) (passes m) b.if-n-x.left k.if-kind-eq-CANCEL.true c.if-own-2.true
 
 loop-again-7 : tie.Need-loop-preserved-7 invariant-loop2 decreases-loop2 invariant-loop decreases-loop
 unfolding at put
 loop-again-7 c =
     let k = cancels c in let b = cancelling k in let m = measured b in let t = turn m in
-    way_cancel (top t).loop.inv (good t) (to m) (passes m) b.if3.left k.if7.taken c.before.if8.false _ c.mark-running.ensures
+    way_cancel (top t).loop-record.inv (good t) (to m) (passes m) b.if-n-x.left k.if-kind-eq-CANCEL.taken c.before.if-own-2.false _ c.mark_running.ensures
 
 -- ---- a begin
-operation-at-requires : tie.Need-operation-at-requires invariant-loop2 decreases-loop2 invariant-loop decreases-loop
+operation-at-requires : tie.Need-operation_at-op-requires invariant-loop2 decreases-loop2 invariant-loop decreases-loop
 operation-at-requires c κs =
     let b = beginning c in let t = turn (measured b) in
-    (must_begin _ (good t) b.before.if2.left c.before.before.if4.false c.if7.false, lawful-long _ false (good t))
+    (must_begin _ (good t) b.before.if-kind-eq-TICK.left c.before.before.if-kind-eq-STEP.false c.if-kind-eq-CANCEL.false, lawful-long _ false (good t))
 
 loop-again-8 : tie.Need-loop-preserved-8 invariant-loop2 decreases-loop2 invariant-loop decreases-loop
 loop-again-8 c =
     let a = c.before in let e = asks a in let b = beginning e in let m = measured b in let t = turn m in
-    way_refused (top t).loop.inv (good t) (to m) (passes m) b.if3.left
-    b.before.if2.left e.before.before.if4.left e.if7.left _ a.before.operation-at.ensures _ (rows a) c.if9.true
+    way_refused (top t).loop-record.inv (good t) (to m) (passes m) b.if-n-x.left
+    b.before.if-kind-eq-TICK.left e.before.before.if-kind-eq-STEP.left e.if-kind-eq-CANCEL.left _ a.before.operation_at-op.ensures _ (rows a) c.if-begin_refusal-ne0.true
 
-join-queue-requires : tie.Need-join-queue-requires invariant-loop2 decreases-loop2 invariant-loop decreases-loop
+join-queue-requires : tie.Need-join_queue-requires invariant-loop2 decreases-loop2 invariant-loop decreases-loop
 unfolding at
 join-queue-requires c κs =
     let j = c.before in let g = begins j in let b = starting g in
-    joined-room _ _ _ (accepted g) _ (sized b) _ j.joined-thread.ensures (shaped b)
+    joined-room _ _ _ (accepted g) _ (sized b) _ j.joined_thread-j.ensures (shaped b)
 
 loop-again-9 : tie.Need-loop-preserved-9 invariant-loop2 decreases-loop2 invariant-loop decreases-loop
 unfolding at put
 loop-again-9 c =
     let q = joined c in let j = joins q in let g = begins j in
     let a = asked g in let e = asks a in let b = beginning e in let m = measured b in let t = turn m in
-    way_begin (top t).loop.inv (good t) (to m) (passes m) b.if3.left
-    b.before.if2.left e.before.before.if4.left e.if7.left _ a.before.operation-at.ensures _ (rows a) g.if9.left _ _ _
-    (begin-leaves _ _ _ (accepted g) _ j.before.before.before.zero-thread.ensures _ (sized b) _ _ _
-    q.join-queue.ensures c.begin-own.ensures j.joined-thread.ensures)
+    way_begin (top t).loop-record.inv (good t) (to m) (passes m) b.if-n-x.left
+    b.before.if-kind-eq-TICK.left e.before.before.if-kind-eq-STEP.left e.if-kind-eq-CANCEL.left _ a.before.operation_at-op.ensures _ (rows a) g.if-begin_refusal-ne0.left _ _ _
+    (begin-leaves _ _ _ (accepted g) _ j.before.before.before.zero_thread.ensures _ (sized b) _ _ _
+    q.join_queue.ensures c.begin_own.ensures j.joined_thread-j.ensures)
 
 -- ---- the end
-add-t107 : tie.Need-overflow-add-t107 invariant-loop2 decreases-loop2 invariant-loop decreases-loop
-add-t107 c = let l = last c.before.before.before in omega (arith, l.loop.inv.within, (start l).pre.room)
+add-t107 : tie.Need-overflow_add-playback invariant-loop2 decreases-loop2 invariant-loop decreases-loop
+add-t107 c = let l = last c.before.before.before in omega (arith, l.loop-record.inv.within, (start l).pre.room)
 
-same_length : tie.Need-same-length invariant-loop2 decreases-loop2 invariant-loop decreases-loop
+same_length : tie.Need-shape_of-store invariant-loop2 decreases-loop2 invariant-loop decreases-loop
 same_length c =
     let l = last c.before.before.before in
-    l.loop.inv.runnable.words ∙ ap (λ (k : ℕ). 8 * k) l.loop.inv.size ∙ sym (start l).pre.words
+    l.loop-record.inv.runnable.words ∙ ap (λ (k : ℕ). 8 * k) l.loop-record.inv.size ∙ sym (start l).pre.words
 
 returns : tie.Need-returns invariant-loop2 decreases-loop2 invariant-loop decreases-loop
 returns c =
     let o = c.before.before.before in let l = last o in (
-      goes_last l.loop.inv (sym o.before.is_lawful.ensures ∙ o.if1.false) _ refl _ c.before.is_whole.ensures,
-      goes_further l.loop.inv (start l).pre refl _ refl,
+      goes_last l.loop-record.inv (sym o.before.is_lawful.ensures ∙ o.loop-record-test.false) _ refl _ c.before.is_whole-bad.ensures,
+      goes_further l.loop-record.inv (start l).pre refl _ refl,
     )
 
-pub play-spec : {M : Type 1} → statement M
-play-spec =
+pub play_spec : {M : Type 1} → statement M
+play_spec =
     tie.close
     (tie.spec invariant-loop2 decreases-loop2 invariant-loop decreases-loop
     -- the loop is reached
     (λ c. search rules) loop-holds
     -- a lawful record is looked for
-    (λ c. omega (arith, c.loop.invariant.within))
-    (λ c. omega (arith, c.loop.invariant.within))
+    (λ c. omega (arith, c.loop-record.invariant.within))
+    (λ c. omega (arith, c.loop-record.invariant.within))
     (λ c. search rules) (λ c κs. search rules)
     -- it is read
-    (λ c. omega (arith, (top c).loop.invariant.within))
-    (λ c. omega (arith, (top c).loop.invariant.within))
+    (λ c. omega (arith, (top c).loop-record.invariant.within))
+    (λ c. omega (arith, (top c).loop-record.invariant.within))
     (λ c. search rules)
     (λ c. omega (arith, head c.before.before))
     (λ c. omega (arith, head c.before.before.before))
     (λ c κs. search rules) add_at
-    (λ c. omega (arith, records-fit (top (turn c)).loop.inv (good (turn c))))
+    (λ c. omega (arith, records-fit (top (turn c)).loop-record.inv (good (turn c))))
     -- a tick
     loop2-holds
     (λ c. search rules) (λ c. search rules) (λ c κs. search rules) (λ c. search rules) (λ c. search rules) (λ c. search rules) (λ c. search rules)
@@ -482,7 +482,7 @@ play-spec =
     (λ c. own-there (starting (begins (joins (joined c)))))
     (λ c. fewer (measured (starting (begins (joins (joined c)))))) loop-again-9
     -- the end
-    (λ c. omega (arith, (last c).loop.invariant.within))
-    (λ c. omega (arith, (last c).loop.invariant.within))
+    (λ c. omega (arith, (last c).loop-record.invariant.within))
+    (λ c. omega (arith, (last c).loop-record.invariant.within))
     (λ c. search rules) (λ c κs. search rules)
     add-t107 same_length returns)

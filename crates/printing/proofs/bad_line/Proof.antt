@@ -13,10 +13,10 @@ slice-aggregate-put-numbers c = search rules
 slice-aggregate-put-numbers-2 : tie.Need-slice-aggregate-put-numbers-2
 slice-aggregate-put-numbers-2 c = search rules
 
-put-numbers-requires : tie.Need-put-numbers-requires
+put-numbers-requires : tie.Need-put_numbers-requires
 put-numbers-requires c κs = search rules
 
-same_length : tie.Need-same-length
+same_length : tie.Need-shape_of-out
 same_length c = search rules
 
 returns : tie.Need-returns
@@ -24,10 +24,10 @@ unfolding bad_line numbers_line ascii up_to
 returns c =
     let told = c.before.before in
     let entry = told.before.before.before.before.before in
-    printed {text = bad_line entry.args.number entry.args.place} told.put-numbers.ensures (bad-short _ _ entry.ranges.number.fits entry.ranges.place.fits)
+    printed {text = bad_line entry.args.number entry.args.place} told.put_numbers.ensures (bad-short _ _ entry.ranges.number.fits entry.ranges.place.fits)
 
-pub bad-line-spec : {M : Type 1} → statement M
-bad-line-spec =
+pub bad_line_spec : {M : Type 1} → statement M
+bad_line_spec =
     tie.close
     (tie.spec
     slice-aggregate-put-numbers

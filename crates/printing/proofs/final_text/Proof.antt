@@ -14,13 +14,13 @@ slice-aggregate-put-numbers c = search rules
 slice-aggregate-put-numbers-2 : tie.Need-slice-aggregate-put-numbers-2
 slice-aggregate-put-numbers-2 c = search rules
 
-put-numbers-requires : tie.Need-put-numbers-requires
+put-numbers-requires : tie.Need-put_numbers-told-requires
 put-numbers-requires c κs = search rules
 
-put-threads-requires : tie.Need-put-threads-requires
+put-threads-requires : tie.Need-put_threads-requires
 put-threads-requires c κs = search rules
 
-same_length : tie.Need-same-length
+same_length : tie.Need-shape_of-out
 same_length c = search rules
 
 returns : tie.Need-returns
@@ -29,11 +29,11 @@ returns c =
     let listed = c.before.before in
     let told = listed.before.before.before.before in
     let entry = told.before.before.before.before.before.before in
-    printed (final_written (tally entry.args.table entry.args.store.now entry.args.records entry.args.refused) told.put-numbers.ensures listed.put-threads.ensures.0)
-    (final_short _ entry.ranges.records.fits entry.ranges.refused.fits listed.put-threads.ensures.1)
+    printed (final_written (tally entry.args.table entry.args.store.now entry.args.records entry.args.refused) told.put_numbers-told.ensures listed.put_threads.ensures.0)
+    (final_short _ entry.ranges.records.fits entry.ranges.refused.fits listed.put_threads.ensures.1)
 
-pub final-text-spec : {M : Type 1} → statement M
-final-text-spec =
+pub final_text_spec : {M : Type 1} → statement M
+final_text_spec =
     tie.close
     (tie.spec
     slice-aggregate-put-numbers

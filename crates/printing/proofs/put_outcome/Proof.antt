@@ -12,34 +12,34 @@ use Rattle.text.proofs.Writing.{◌then◌}
 use Rattle.printing.proofs.put_outcome.Statement.{statement}
 use Rattle.printing.proofs.put_outcome.Tie as tie
 
-put-number-requires : tie.Need-put-number-requires
+put-number-requires : tie.Need-put_number-numbered-requires
 put-number-requires c κs = search rules
 
-put-byte-requires : tie.Need-put-byte-requires
+put-byte-requires : tie.Need-put_byte-first-requires
 put-byte-requires c κs = search rules
 
-put-signed-requires : tie.Need-put-signed-requires
+put-signed-requires : tie.Need-put_signed-coded-requires
 put-signed-requires c κs = search rules
 
-put-byte-requires-2 : tie.Need-put-byte-requires-2
+put-byte-requires-2 : tie.Need-put_byte-second-requires
 put-byte-requires-2 c κs = search rules
 
-cast-put-number : tie.Need-overflow-cast-put-number
+cast-put-number : tie.Need-overflow_cast-shown
 cast-put-number c = search rules
 
-put-number-requires-2 : tie.Need-put-number-requires-2
+put-number-requires-2 : tie.Need-put_number-sourced-requires
 put-number-requires-2 c κs = search rules
 
-put-byte-requires-3 : tie.Need-put-byte-requires-3
+put-byte-requires-3 : tie.Need-put_byte-third-requires
 put-byte-requires-3 c κs = search rules
 
-cast-put-number-2 : tie.Need-overflow-cast-put-number-2
+cast-put-number-2 : tie.Need-overflow_cast-shown-2
 cast-put-number-2 c = search rules
 
-put-number-requires-3 : tie.Need-put-number-requires-3
+put-number-requires-3 : tie.Need-put_number-requires
 put-number-requires-3 c κs = search rules
 
-same_length : tie.Need-same-length
+same_length : tie.Need-shape_of-out
 same_length c = search rules
 
 -- the code fits its 32 bits
@@ -61,14 +61,14 @@ returns c =
     let first = coded.before.before.before.before.before in
     let numbered = first.before.before.before.before in
     let entry = numbered.before.before.before in
-    let code = rw (to_z-of_z (code_fits entry)) at coded.put-signed.ensures in (
-      numbered.put-number.ensures then first.put_byte.ensures then code then second.put-byte2.ensures then sourced.put-number2.ensures then third.put-byte3.ensures
-          then counted.put-number3.ensures,
+    let code = rw (to_z-of_z (code_fits entry)) at coded.put_signed-coded.ensures in (
+      numbered.put_number-numbered.ensures then first.put_byte-first.ensures then code then second.put_byte-second.ensures then sourced.put_number-sourced.ensures then third.put_byte-third.ensures
+          then counted.put_number.ensures,
       short entry,
     )
 
-pub put-outcome-spec : {M : Type 1} → statement M
-put-outcome-spec =
+pub put_outcome_spec : {M : Type 1} → statement M
+put_outcome_spec =
     tie.close
     (tie.spec
     put-number-requires

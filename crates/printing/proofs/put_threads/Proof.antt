@@ -15,60 +15,60 @@ use Rattle.printing.proofs.put_threads.Statement.{statement}
 use Rattle.printing.proofs.put_threads.Tie as tie
 
 -- the lines of the first x threads are written, and are short
-abbrev invariant-loop : tie.invariant-loop
+abbrev invariant-loop : tie.invariant-loop-x
 invariant-loop store start out₀ table n none end₀ x₀ out end x = (x ≤ n) × Written start (threads_text (state table store) x) out₀ out end × (length (threads_text (state table store) x) ≤ longest_line * x)
 
 -- how many threads are left
-abbrev decreases-loop : tie.decreases-loop
+abbrev decreases-loop : tie.decreases-loop-x
 decreases-loop store start out₀ table n none end₀ x₀ out end x = n - x
 
-loop-holds : tie.Need-loop-init invariant-loop decreases-loop
+loop-holds : tie.Need-loop-x-init invariant-loop decreases-loop
 loop-holds c = (search rules, rw threads-none (nothing_written _ _), none-short _)
 
-cast-i : tie.Need-overflow-cast-i invariant-loop decreases-loop
+cast-i : tie.Need-overflow_cast-i invariant-loop decreases-loop
 cast-i c = search rules
 
-mul-thread : tie.Need-overflow-mul-thread invariant-loop decreases-loop
+mul-thread : tie.Need-offset_bounds-table-i invariant-loop decreases-loop
 mul-thread c = search rules
 
-element-copy-out-thread : tie.Need-element-copy-out-thread invariant-loop decreases-loop
+element-copy-out-thread : tie.Need-bounds-table-i invariant-loop decreases-loop
 element-copy-out-thread c = search rules
 
-put-thread-requires : tie.Need-put-thread-requires invariant-loop decreases-loop
+put-thread-requires : tie.Need-put_thread-end-requires invariant-loop decreases-loop
 put-thread-requires c κs = search rules
 
-put-thread-requires-2 : tie.Need-put-thread-requires-2 invariant-loop decreases-loop
+put-thread-requires-2 : tie.Need-put_thread-end-requires-else-i-lt32 invariant-loop decreases-loop
 put-thread-requires-2 c κs = search rules
 
-add-x : tie.Need-overflow-add-x invariant-loop decreases-loop
+add-x : tie.Need-overflow_add-x invariant-loop decreases-loop
 add-x c = search rules
 
-loop-less : tie.Need-loop-smaller invariant-loop decreases-loop
+loop-less : tie.Need-loop-x-smaller invariant-loop decreases-loop
 loop-less c = search rules
 
-loop-again : tie.Need-loop-preserved invariant-loop decreases-loop
+loop-again : tie.Need-loop-x-preserved invariant-loop decreases-loop
 unfolding at
 loop-again c =
     let turn = c.before.before in
     let entry = turn.before.before.before in
     let t = entry.args.t1 in
-    let reached = turn.loop.invariant in
+    let reached = turn.loop-x.invariant in
     let long : length t.threads ≡ 32 = simp length-map at entry.well-formed.0.1.1.1.0.1.0.1 in
-    elim c.if1.branch [
+    elim c.if-i-lt32.branch [
       | inl w ↦ (search rules, rw (w.7, w.8) (one-more-thread _ _ reached.1 (w.4.ensures.0 t refl)), one-more-short _ _ reached.2 (w.4.ensures.1 t refl))
       | inr w ↦
-          let past = outcome-past t turn.loop.x (omega (arith, long, w.0.left)) in
+          let past = outcome-past t turn.loop-x.x (omega (arith, long, w.0.left)) in
           (search rules, rw (w.5, w.6) (one-more-thread _ _ reached.1 (w.2.ensures.0 t past)), one-more-short _ _ reached.2 (w.2.ensures.1 t past))
     ]
 
-same_length : tie.Need-same-length invariant-loop decreases-loop
-same_length c = written-length c.before.loop.invariant.1
+same_length : tie.Need-shape_of-out invariant-loop decreases-loop
+same_length c = written-length c.before.loop-x.invariant.1
 
 returns : tie.Need-returns invariant-loop decreases-loop
-returns c = let all : c.before.loop.x ≡ c.before.before.before.before.args.t1.n = omega arith in (rw all at c.before.loop.invariant.1, rw all at c.before.loop.invariant.2)
+returns c = let all : c.before.loop-x.x ≡ c.before.before.before.before.args.t1.n = omega arith in (rw all at c.before.loop-x.invariant.1, rw all at c.before.loop-x.invariant.2)
 
-pub put-threads-spec : {M : Type 1} → statement M
-put-threads-spec =
+pub put_threads_spec : {M : Type 1} → statement M
+put_threads_spec =
     tie.close
     (tie.spec
     invariant-loop

@@ -10,52 +10,52 @@ use Rattle.queues.proofs.close_gap.Statement.{statement}
 use Rattle.queues.proofs.close_gap.Tie as tie
 
 -- what stands after the place, up to place i, is moved up
-abbrev invariant-loop : tie.invariant-loop
+abbrev invariant-loop : tie.invariant-loop-i
 invariant-loop place items₀ len last i₀ items i = (place ≤ i) × (i ≤ last) × (length items ≡ 32) × (items ≡ moved_up place i items₀)
 
 -- how many are left to move
-abbrev decreases-loop : tie.decreases-loop
+abbrev decreases-loop : tie.decreases-loop-i
 decreases-loop place items₀ len last i₀ items i = last - i
 
-sub-len : tie.Need-overflow-sub-len invariant-loop decreases-loop
+sub-len : tie.Need-overflow_sub-len invariant-loop decreases-loop
 sub-len c = search rules
 
-cast-last : tie.Need-overflow-cast-last invariant-loop decreases-loop
+cast-last : tie.Need-overflow_cast-last invariant-loop decreases-loop
 cast-last c = search rules
 
-loop-holds : tie.Need-loop-init invariant-loop decreases-loop
+loop-holds : tie.Need-loop-i-init invariant-loop decreases-loop
 loop-holds c = (search rules, search rules, search rules, none-moved _ _)
 
-add-items : tie.Need-overflow-add-items invariant-loop decreases-loop
+add-items : tie.Need-overflow_add-items invariant-loop decreases-loop
 add-items c = search rules
 
-array-read-items : tie.Need-array-read-items invariant-loop decreases-loop
+array-read-items : tie.Need-bounds-items-i invariant-loop decreases-loop
 array-read-items c = search rules
 
-array-write-items : tie.Need-array-write-items invariant-loop decreases-loop
+array-write-items : tie.Need-bounds-items-i-in-loop-i invariant-loop decreases-loop
 array-write-items c = search rules
 
-add-i : tie.Need-overflow-add-i invariant-loop decreases-loop
+add-i : tie.Need-overflow_add-i invariant-loop decreases-loop
 add-i c = search rules
 
-loop-less : tie.Need-loop-smaller invariant-loop decreases-loop
+loop-less : tie.Need-loop-i-smaller invariant-loop decreases-loop
 loop-less c = search rules
 
-loop-again : tie.Need-loop-preserved invariant-loop decreases-loop
+loop-again : tie.Need-loop-i-preserved invariant-loop decreases-loop
 loop-again c =
     let items = c.before.before.before.before.args.q.items in
     let long : length items ≡ 32 = search rules in
-    (search rules, search rules, search rules, rw (add-one, c.before.loop.invariant.3) (one-more-moved _ _ items (search rules) (omega arith)))
+    (search rules, search rules, search rules, rw (add-one, c.before.loop-i.invariant.3) (one-more-moved _ _ items (search rules) (omega arith)))
 
 returns : tie.Need-returns invariant-loop decreases-loop
 unfolding gap_closed
 returns c =
-    let moved = c.before.loop in
+    let moved = c.before.loop-i in
     let e : moved.i ≡ c.before.before.before.before.args.q.len - 1 = omega arith in
     rw (moved.invariant.3, e) refl
 
-pub close-gap-spec : {M : Type 1} → statement M
-close-gap-spec =
+pub close_gap_spec : {M : Type 1} → statement M
+close_gap_spec =
     tie.close
     (tie.spec
     invariant-loop

@@ -10,45 +10,45 @@ use Rattle.queues.proofs.Laws.{read-inside, read_past}
 use Rattle.queues.proofs.first_acceptable.Statement.{statement}
 use Rattle.queues.proofs.first_acceptable.Tie as tie
 
-search-requires : tie.Need-search-requires
+search-requires : tie.Need-search-place-requires
 search-requires c κs = search rules
 
-cast-n : tie.Need-overflow-cast-n
+cast-n : tie.Need-overflow_cast-n
 cast-n c = search rules
 
 -- no sender fits
-returns : tie.Need-returns
+returns : tie.Need-returns-then-n-place
 unfolding find_sender senders
 returns c =
     let h = c.before.before.before.before.args.h in
-    let found = c.before.before.before.search in
-    let whole : length h.queue.items ≡ 32 = search rules in
+    let found = c.before.before.before.search-place in
+    let whole : length h.queue-1.items ≡ 32 = search rules in
     let long = senders-length h whole (search rules) in
-    let end : length (senders h) ≤ search_place h = omega (arith, c.if1.true, found.ensures) in
-    (rw (← found.ensures) (read_past _ _ _ _ c.if1.true), sym (places-all h end ∙ long))
+    let end : length (senders h) ≤ search_place h = omega (arith, c.if-n-place.true, found.ensures) in
+    (rw (← found.ensures) (read_past _ _ _ _ c.if-n-place.true), sym (places-all h end ∙ long))
 
-cast-places : tie.Need-overflow-cast-places
+cast-places : tie.Need-overflow_cast-places
 cast-places c = search rules
 
-add-places : tie.Need-overflow-add-places
+add-places : tie.Need-overflow_add-places
 add-places c = search rules
 
-array-read-t8 : tie.Need-array-read-t8
+array-read-t8 : tie.Need-bounds-items-place
 array-read-t8 c = search rules
 
 -- one does
-returns-2 : tie.Need-returns-2
+returns-2 : tie.Need-returns
 unfolding find_sender senders
 returns-2 c =
     let h = c.before.before.before.before.before.args.h in
-    let found = c.before.before.before.before.search in
-    let here = c.before.if1.false in
-    let whole : length h.queue.items ≡ 32 = search rules in
+    let found = c.before.before.before.before.search-place in
+    let here = c.before.if-n-place.false in
+    let whole : length h.queue-1.items ≡ 32 = search rules in
     let long = senders-length h whole (search rules) in
     let inside : search_place h < length (senders h) = omega (arith, here, found.ensures) in
-    (rw (← found.ensures) (read-inside h.queue.items h.queue.len found.result _ here (omega arith)), rw (places-to h inside) (omega arith))
+    (rw (← found.ensures) (read-inside h.queue-1.items h.queue-1.len found.result _ here (omega arith)), rw (places-to h inside) (omega arith))
 
-pub first-acceptable-spec : {M : Type 1} → statement M
-first-acceptable-spec =
+pub first_acceptable_spec : {M : Type 1} → statement M
+first_acceptable_spec =
     tie.close
     (tie.spec search-requires cast-n returns cast-places add-places array-read-t8 returns-2)

@@ -4,18 +4,18 @@ use Rattle.model.specs.Queues.{joined}
 use Rattle.queues.proofs.join.Statement.{statement}
 use Rattle.queues.proofs.join.Tie as tie
 
-cast-n : tie.Need-overflow-cast-n
+cast-n : tie.Need-overflow_cast-n
 cast-n c = search rules
 
-element-write-queue : tie.Need-element-write-queue
+element-write-queue : tie.Need-bounds-queue-n
 element-write-queue c = search rules
 
-add-queue : tie.Need-overflow-add-queue
+add-queue : tie.Need-overflow_add-queue
 add-queue c = search rules
 
 returns : tie.Need-returns
 unfolding joined
 returns c = refl
 
-pub join-spec : {M : Type 1} → statement M
-join-spec = tie.close (tie.spec cast-n element-write-queue add-queue returns)
+pub join_spec : {M : Type 1} → statement M
+join_spec = tie.close (tie.spec cast-n element-write-queue add-queue returns)

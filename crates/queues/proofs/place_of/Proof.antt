@@ -7,39 +7,39 @@ use Rattle.queues.proofs.place_of.Statement.{statement}
 use Rattle.queues.proofs.place_of.Tie as tie
 
 -- how far the search has come
-abbrev invariant-loop : tie.invariant-loop
+abbrev invariant-loop : tie.invariant-loop-i
 invariant-loop s items n i₀ i = Searching (λ a. eqb a s) items n i
 
 -- how many places are left
-abbrev decreases-loop : tie.decreases-loop
+abbrev decreases-loop : tie.decreases-loop-i
 decreases-loop s items n i₀ i = n - i
 
-cast-n : tie.Need-overflow-cast-n invariant-loop decreases-loop
+cast-n : tie.Need-overflow_cast-n invariant-loop decreases-loop
 cast-n c = search rules
 
-loop-holds : tie.Need-loop-init invariant-loop decreases-loop
+loop-holds : tie.Need-loop-i-init invariant-loop decreases-loop
 loop-holds c = search_starts _ _ _ 32 (search rules) (search rules)
 
-array-read-if2 : tie.Need-array-read-if2 invariant-loop decreases-loop
+array-read-if2 : tie.Need-bounds-items-i invariant-loop decreases-loop
 array-read-if2 c = search rules
 
-add-i : tie.Need-overflow-add-i invariant-loop decreases-loop
+add-i : tie.Need-overflow_add-i invariant-loop decreases-loop
 add-i c = search rules
 
-loop-less : tie.Need-loop-smaller invariant-loop decreases-loop
+loop-less : tie.Need-loop-i-smaller invariant-loop decreases-loop
 loop-less c = search rules
 
-loop-again : tie.Need-loop-preserved invariant-loop decreases-loop
-loop-again c = goes_on _ c.before.before.loop.invariant c.before.if1.false (ne_eqb _ _ c.if2.false)
+loop-again : tie.Need-loop-i-preserved invariant-loop decreases-loop
+loop-again c = goes_on _ c.before.before.loop-i.invariant c.before.if-n-i.false (ne_eqb _ _ c.if-items-i.false)
 
-returns : tie.Need-returns invariant-loop decreases-loop
-returns c = stops-at-end _ c.before.loop.invariant c.if1.true
+returns : tie.Need-returns-then-n-i invariant-loop decreases-loop
+returns c = stops-at-end _ c.before.loop-i.invariant c.if-n-i.true
 
-returns-2 : tie.Need-returns-2 invariant-loop decreases-loop
-returns-2 c = stops-here _ c.before.before.loop.invariant c.before.if1.false (eq-eqb _ _ c.if2.true)
+returns-2 : tie.Need-returns-then-items-i invariant-loop decreases-loop
+returns-2 c = stops-here _ c.before.before.loop-i.invariant c.before.if-n-i.false (eq-eqb _ _ c.if-items-i.true)
 
-pub place-of-spec : {M : Type 1} → statement M
-place-of-spec =
+pub place_of_spec : {M : Type 1} → statement M
+place_of_spec =
     tie.close
     (tie.spec
     invariant-loop

@@ -8,44 +8,44 @@ use Rattle.queues.proofs.search.Statement.{statement}
 use Rattle.queues.proofs.search.Tie as tie
 
 -- how far the search has come
-abbrev invariant-loop : tie.invariant-loop
+abbrev invariant-loop : tie.invariant-loop-i
 invariant-loop items n receive i₀ i = Searching (accepts receive) items n i
 
 -- how many places are left
-abbrev decreases-loop : tie.decreases-loop
+abbrev decreases-loop : tie.decreases-loop-i
 decreases-loop items n receive i₀ i = n - i
 
-cast-n : tie.Need-overflow-cast-n invariant-loop decreases-loop
+cast-n : tie.Need-overflow_cast-n invariant-loop decreases-loop
 cast-n c = search rules
 
-loop-holds : tie.Need-loop-init invariant-loop decreases-loop
+loop-holds : tie.Need-loop-i-init invariant-loop decreases-loop
 loop-holds c = search_starts _ _ _ 32 (search rules) (search rules)
 
-array-read-accepts-from : tie.Need-array-read-accepts-from invariant-loop decreases-loop
+array-read-accepts-from : tie.Need-bounds-items-i invariant-loop decreases-loop
 array-read-accepts-from c = search rules
 
-accepts-from-requires : tie.Need-accepts-from-requires invariant-loop decreases-loop
+accepts-from-requires : tie.Need-accepts_from-requires invariant-loop decreases-loop
 accepts-from-requires c κs = search rules
 
-add-i : tie.Need-overflow-add-i invariant-loop decreases-loop
+add-i : tie.Need-overflow_add-i invariant-loop decreases-loop
 add-i c = search rules
 
-loop-less : tie.Need-loop-smaller invariant-loop decreases-loop
+loop-less : tie.Need-loop-i-smaller invariant-loop decreases-loop
 loop-less c = search rules
 
-loop-again : tie.Need-loop-preserved invariant-loop decreases-loop
-loop-again c = goes_on _ c.before.before.before.loop.invariant c.before.before.if1.false (sym c.before.accepts-from.ensures ∙ c.if2.false)
+loop-again : tie.Need-loop-i-preserved invariant-loop decreases-loop
+loop-again c = goes_on _ c.before.before.before.loop-i.invariant c.before.before.if-n-i.false (sym c.before.accepts_from.ensures ∙ c.if-accepts_from.false)
 
-returns : tie.Need-returns invariant-loop decreases-loop
+returns : tie.Need-returns-then-n-i invariant-loop decreases-loop
 unfolding search_place senders
-returns c = stops-at-end _ c.before.loop.invariant c.if1.true
+returns c = stops-at-end _ c.before.loop-i.invariant c.if-n-i.true
 
-returns-2 : tie.Need-returns-2 invariant-loop decreases-loop
+returns-2 : tie.Need-returns-then-accepts_from invariant-loop decreases-loop
 unfolding search_place senders
-returns-2 c = stops-here _ c.before.before.before.loop.invariant c.before.before.if1.false (sym c.before.accepts-from.ensures ∙ c.if2.true)
+returns-2 c = stops-here _ c.before.before.before.loop-i.invariant c.before.before.if-n-i.false (sym c.before.accepts_from.ensures ∙ c.if-accepts_from.true)
 
-pub search-spec : {M : Type 1} → statement M
-search-spec =
+pub search_spec : {M : Type 1} → statement M
+search_spec =
     tie.close
     (tie.spec
     invariant-loop

@@ -7,5 +7,5 @@ returns : tie.Need-returns
 unfolding is_begin
 returns c = refl
 
-pub is-begin-spec : {M : Type 1} → statement M
-is-begin-spec = tie.close (tie.spec returns)
+pub is_begin_spec : {M : Type 1} → statement M
+is_begin_spec = tie.close (tie.spec returns)

@@ -18,29 +18,29 @@ whole s = omega (arith, s.requires.1, begin-long (kind_byte s.args.bytes.now) s.
 
 -- the kind is another than that of a begin without a set
 abbrev Other : Type 0
-Other = tie.Else1
+Other = tie.Else-bytes-eq-BEGIN
 
 abbrev entry : Other → tie.Start
 entry o = o.before.before.before.before
 
 -- so it is that of one with a set
 with-set : (o : Other) → kind_byte (entry o).args.bytes.now ≡ set_kind
-with-set o = must_set _ (entry o).requires.0 o.if1.false
+with-set o = must_set _ (entry o).requires.0 o.if-bytes-eq-BEGIN.false
 
 -- ---- the needs
-returns : tie.Need-returns
+returns : tie.Need-returns-then-bytes-eq-BEGIN
 unfolding operation_by operation_of
-returns c = rw (c.before.before.before.IsSend-at.ensures, c.receive-at.ensures, eq-eqb _ _ c.before.if1.true)
+returns c = rw (c.before.before.before.IsSend-at.ensures, c.receive_at-receive.ensures, eq-eqb _ _ c.before.if-bytes-eq-BEGIN.true)
 
-set-at-requires : tie.Need-set-at-requires
+set-at-requires : tie.Need-set_at-receive-requires
 set-at-requires c κs = omega (arith, (entry c).requires.1, record_set _ (with-set c))
 
-returns-2 : tie.Need-returns-2
+returns-2 : tie.Need-returns
 unfolding operation_by set_operation_of
-returns-2 c = let o = c.before in rw (o.before.before.IsSend-at.ensures, c.set_at.ensures, ne_eqb _ _ o.if1.false, eq-eqb _ _ (with-set o))
+returns-2 c = let o = c.before in rw (o.before.before.IsSend-at.ensures, c.set_at-receive.ensures, ne_eqb _ _ o.if-bytes-eq-BEGIN.false, eq-eqb _ _ (with-set o))
 
-pub operation-at-spec : {M : Type 1} → statement M
-operation-at-spec =
+pub operation_at_spec : {M : Type 1} → statement M
+operation_at_spec =
     tie.close
     (tie.spec
     (λ c κs. whole c.before)

@@ -3,17 +3,17 @@ use Rattle.model.specs.RecordBytes.{record_length}
 use Rattle.reading.proofs.record_length.Statement.{statement}
 use Rattle.reading.proofs.record_length.Tie as tie
 
-returns : tie.Need-returns
+returns : tie.Need-returns-then-kind-eq-BEGIN
 unfolding record_length
-returns c = rw (eq-eqb _ _ c.if1.true)
+returns c = rw (eq-eqb _ _ c.if-kind-eq-BEGIN.true)
 
-returns-2 : tie.Need-returns-2
+returns-2 : tie.Need-returns-then-kind-eq-SET
 unfolding record_length
-returns-2 c = rw (ne_eqb _ _ c.before.if1.false, eq-eqb _ _ c.if2.true)
+returns-2 c = rw (ne_eqb _ _ c.before.if-kind-eq-BEGIN.false, eq-eqb _ _ c.if-kind-eq-SET.true)
 
-returns-3 : tie.Need-returns-3
+returns-3 : tie.Need-returns
 unfolding record_length
-returns-3 c = rw (ne_eqb _ _ c.before.if1.false, ne_eqb _ _ c.if2.false)
+returns-3 c = rw (ne_eqb _ _ c.before.if-kind-eq-BEGIN.false, ne_eqb _ _ c.if-kind-eq-SET.false)
 
-pub record-length-spec : {M : Type 1} → statement M
-record-length-spec = tie.close (tie.spec returns returns-2 returns-3)
+pub record_length_spec : {M : Type 1} → statement M
+record_length_spec = tie.close (tie.spec returns returns-2 returns-3)

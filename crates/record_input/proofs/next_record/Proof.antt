@@ -3,10 +3,10 @@ use Rattle.record_input.proofs.next_record.Statement.{statement}
 use Rattle.record_input.proofs.next_record.Tie as tie
 
 returns : tie.Need-returns
-returns c = (search rules, record { own = search rules; few = search rules; left = search rules; item = c.before.take.ensures.1.1 })
+returns c = (search rules, record { own = search rules; few = search rules; left = search rules; item = c.before.take-taken.ensures.1.1 })
 
-pub next-record-spec : {M : Type 1} → statement M
-next-record-spec =
+pub next_record_spec : {M : Type 1} → statement M
+next_record_spec =
     tie.close
     (tie.spec
     (λ c κs. search rules)

@@ -4,15 +4,15 @@ use Rattle.record_input.proofs.Accepted.{record_whole}
 use Rattle.record_input.proofs.take.Statement.{statement}
 use Rattle.record_input.proofs.take.Tie as tie
 
-returns : tie.Need-returns
-returns c = (search rules, (search rules, c.before.before.before.before.read.ensures.reads))
+returns : tie.Need-returns-in-Refused
+returns c = (search rules, (search rules, c.before.before.read-decoded.ensures.reads))
 
-returns-2 : tie.Need-returns-2
+returns-2 : tie.Need-returns
 returns-2 c =
     let answer = c.before in
     let decoded = answer.before.before in (
-      rw c.record-length.ensures (record_whole _ _ _ _ decoded.read.ensures answer.match.keys2),
-      (rw c.record-length.ensures (record_longest _), decoded.read.ensures.reads),
+      rw c.record_length-length.ensures (record_whole _ _ _ _ decoded.read-decoded.ensures answer.in_default.in_default-own.keys2),
+      (rw c.record_length-length.ensures (record_longest _), decoded.read-decoded.ensures.reads),
     )
 
 pub take_spec : {M : Type 1} → statement M

@@ -12,7 +12,7 @@ returns c =
     let received = c.before.before in
     let sent = received.before.before.before.before in
     let named = sent.before.before.before.before in
-    named.put-named.ensures then sent.put-send.ensures then received.put-receive.ensures
+    named.put_named-named.ensures then sent.put_send-sent.ensures then received.put_receive.ensures
 
-pub put-begin-spec : {M : Type 1} → statement M
-put-begin-spec = tie.close (tie.spec (λ c. search rules) (λ c κs. search rules) (λ c κs. search rules) (λ c κs. search rules) (λ c. search rules) returns)
+pub put_begin_spec : {M : Type 1} → statement M
+put_begin_spec = tie.close (tie.spec (λ c. search rules) (λ c κs. search rules) (λ c κs. search rules) (λ c κs. search rules) (λ c. search rules) returns)

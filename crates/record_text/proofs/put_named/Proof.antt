@@ -7,7 +7,7 @@ returns : tie.Need-returns
 returns c =
     let placed = c.before.before in
     let named = placed.before.before.before.before in
-    named.put-text.ensures then placed.put-spaced.ensures
+    named.put_text-named.ensures then placed.put_spaced.ensures
 
-pub put-named-spec : {M : Type 1} → statement M
-put-named-spec = tie.close (tie.spec (λ c κs. search rules) (λ c κs. search rules) (λ c. search rules) returns)
+pub put_named_spec : {M : Type 1} → statement M
+put_named_spec = tie.close (tie.spec (λ c κs. search rules) (λ c κs. search rules) (λ c. search rules) returns)

@@ -7,38 +7,38 @@ use Rattle.record_text.proofs.Texts.{more_numbers}
 use Rattle.record_text.proofs.put_receive.Statement.{statement}
 use Rattle.record_text.proofs.put_receive.Tie as tie
 
-returns : tie.Need-returns
+returns : tie.Need-returns-in-Absent
 unfolding receive_text
-returns c = rw c.enum_told.given.1 (nothing_written _ _)
+returns c = rw c.in-Absent.is (nothing_written _ _)
 
-returns-2 : tie.Need-returns-2
+returns-2 : tie.Need-returns-in-Open
 unfolding receive_text ascii up_to
 returns-2 c =
     let timed = c.before.before in
     let named = timed.before.before.before.before.before in
     let part = named.before.before.before.before in
-    rw part.receive.given.1 (named.put-text.ensures then timed.put-spaced.ensures)
+    rw part.receive.given.1 (named.put_text-named.ensures then timed.put_spaced.ensures)
 
-returns-3 : tie.Need-returns-3
+returns-3 : tie.Need-returns-in-Closed
 unfolding receive_text ascii up_to
 returns-3 c =
     let timed = c.before.before in
     let aimed = timed.before.before.before.before.before in
     let named = aimed.before.before.before.before.before in
     let part = named.before.before.before.before in
-    rw part.receive2.given.1 (named.put-text2.ensures then more_numbers _ _ aimed.put-spaced2.ensures timed.put-spaced3.ensures)
+    rw part.receive2.given.1 (named.put_text-named-in-Closed.ensures then more_numbers _ _ aimed.put_spaced-aimed.ensures timed.put_spaced-in-Closed.ensures)
 
-returns-4 : tie.Need-returns-4
+returns-4 : tie.Need-returns-in-OneOf
 unfolding receive_text ascii up_to
 returns-4 c =
     let timed = c.before.before in
     let aimed = timed.before.before.before.before in
     let named = aimed.before.before.before.before in
     let part = named.before.before.before.before in
-    rw part.receive3.given.1 (named.put-text3.ensures then more_numbers _ _ aimed.put-spaced4.ensures timed.put-spaced5.ensures)
+    rw part.receive3.given.1 (named.put_text-named-in-OneOf.ensures then more_numbers _ _ aimed.put_spaced-aimed-in-OneOf.ensures timed.put_spaced-in-OneOf.ensures)
 
-pub put-receive-spec : {M : Type 1} → statement M
-put-receive-spec =
+pub put_receive_spec : {M : Type 1} → statement M
+put_receive_spec =
     tie.close
     (tie.spec
     (λ c. search rules)

@@ -17,33 +17,33 @@ use Rattle.record_text.proofs.put_record.Tie as tie
 short : (c : tie.Start) → length (record_line c.args.item) ≤ longest_line
 short c = line-short _ (record_typed _ _ c.well-formed.1.1.0)
 
-returns : tie.Need-returns
+returns : tie.Need-returns-then-kind-eq-TABLE
 unfolding ascii up_to
 returns c =
     let named = c.before.before in
     let table = named.before.before.before in
-    (rw (line_of_table table.before.before.args.item (eq-eqb _ _ table.if1.true)) named.put-named.ensures, short table.before.before)
+    (rw (line_of_table table.before.before.args.item (eq-eqb _ _ table.if1.true)) named.put_named.ensures, short table.before.before)
 
-returns-2 : tie.Need-returns-2
+returns-2 : tie.Need-returns-then-is_begin
 unfolding begin_line
 returns-2 c =
     let begun = c.before.before in
     let begin = begun.before.before in
     let table = begin.before.before in
-    (rw (line_of_begin table.before.before.args.item (ne_eqb _ _ table.if1.false) (sym begin.before.is-begin.ensures ∙ begin.if2.true)) begun.put-begin.ensures, short table.before.before)
+    (rw (line_of_begin table.before.before.args.item (ne_eqb _ _ table.if-kind-eq-TABLE.false) (sym begin.before.is_begin.ensures ∙ begin.if-is_begin.true)) begun.put_begin.ensures, short table.before.before)
 
-returns-3 : tie.Need-returns-3
+returns-3 : tie.Need-returns-then-kind-eq-STEP
 unfolding ascii up_to
 returns-3 c =
     let named = c.before.before in
     let step = named.before.before.before in
     let begin = step.before in
     let table = begin.before.before in (
-      rw (line_of_step table.before.before.args.item (ne_eqb _ _ table.if1.false) (sym begin.before.is-begin.ensures ∙ begin.if2.false) (eq-eqb _ _ step.if3.true)) named.put-named2.ensures,
+      rw (line_of_step table.before.before.args.item (ne_eqb _ _ table.if1.false) (sym begin.before.is-begin.ensures ∙ begin.if2.false) (eq-eqb _ _ step.if3.true)) named.put_named-then-kind-eq-STEP.ensures,
       short table.before.before,
     )
 
-returns-4 : tie.Need-returns-4
+returns-4 : tie.Need-returns-then-kind-eq-CANCEL
 unfolding ascii up_to
 returns-4 c =
     let named = c.before.before in
@@ -51,11 +51,11 @@ returns-4 c =
     let step = cancel.before in
     let begin = step.before in
     let table = begin.before.before in (
-      rw (line_of_cancel table.before.before.args.item (ne_eqb _ _ table.if1.false) (sym begin.before.is-begin.ensures ∙ begin.if2.false) (ne_eqb _ _ step.if3.false) (eq-eqb _ _ cancel.if4.true)) named.put-named3.ensures,
+      rw (line_of_cancel table.before.before.args.item (ne_eqb _ _ table.if1.false) (sym begin.before.is-begin.ensures ∙ begin.if2.false) (ne_eqb _ _ step.if3.false) (eq-eqb _ _ cancel.if4.true)) named.put_named-then-kind-eq-CANCEL.ensures,
       short table.before.before,
     )
 
-returns-5 : tie.Need-returns-5
+returns-5 : tie.Need-returns
 unfolding ascii up_to
 returns-5 c =
     let named = c.before.before in
@@ -63,12 +63,12 @@ returns-5 c =
     let step = cancel.before in
     let begin = step.before in
     let table = begin.before.before in (
-      rw (line_of_tick table.before.before.args.item (ne_eqb _ _ table.if1.false) (sym begin.before.is-begin.ensures ∙ begin.if2.false) (ne_eqb _ _ step.if3.false) (ne_eqb _ _ cancel.if4.false)) named.put-text.ensures,
+      rw (line_of_tick table.before.before.args.item (ne_eqb _ _ table.if1.false) (sym begin.before.is-begin.ensures ∙ begin.if2.false) (ne_eqb _ _ step.if3.false) (ne_eqb _ _ cancel.if4.false)) named.put_text.ensures,
       short table.before.before,
     )
 
-pub put-record-spec : {M : Type 1} → statement M
-put-record-spec =
+pub put_record_spec : {M : Type 1} → statement M
+put_record_spec =
     tie.close
     (tie.spec
     (λ c. search rules)

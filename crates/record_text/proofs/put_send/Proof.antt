@@ -6,7 +6,7 @@ use Rattle.record_text.proofs.Texts.{more_numbers, send-there, send-missing}
 use Rattle.record_text.proofs.put_send.Statement.{statement}
 use Rattle.record_text.proofs.put_send.Tie as tie
 
-returns : tie.Need-returns
+returns : tie.Need-returns-then-send
 unfolding ascii up_to
 returns c =
     let worded = c.before.before in
@@ -16,13 +16,13 @@ returns c =
     let test = named.before.before.before in
     let entry = test.before.before in
     rw (send-there entry.args.send test.if1.true)
-    (named.put-text.ensures then more_numbers _ _ (more_numbers _ _ aimed.put-spaced.ensures timed.put-spaced2.ensures) worded.put-sent.ensures)
+    (named.put_text-named.ensures then more_numbers _ _ (more_numbers _ _ aimed.put_spaced-aimed.ensures timed.put_spaced-timed.ensures) worded.put_sent.ensures)
 
-returns-2 : tie.Need-returns-2
-returns-2 c = rw (send-missing c.before.before.args.send c.if1.false) (nothing_written _ _)
+returns-2 : tie.Need-returns
+returns-2 c = rw (send-missing c.before.before.args.send c.if-send.false) (nothing_written _ _)
 
-pub put-send-spec : {M : Type 1} → statement M
-put-send-spec =
+pub put_send_spec : {M : Type 1} → statement M
+put_send_spec =
     tie.close
     (tie.spec
     (λ c. search rules)

@@ -8,7 +8,7 @@ returns : tie.Need-returns
 returns c =
     let numbered = c.before.before in
     let gap = numbered.before.before.before.before in
-    rw spaced-one (gap.put_byte.ensures then numbered.put-number.ensures)
+    rw spaced-one (gap.put_byte-gap.ensures then numbered.put_number.ensures)
 
-pub put-spaced-spec : {M : Type 1} → statement M
-put-spaced-spec = tie.close (tie.spec (λ c κs. search rules) (λ c κs. search rules) (λ c. search rules) returns)
+pub put_spaced_spec : {M : Type 1} → statement M
+put_spaced_spec = tie.close (tie.spec (λ c κs. search rules) (λ c κs. search rules) (λ c. search rules) returns)

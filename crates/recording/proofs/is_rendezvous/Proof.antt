@@ -5,5 +5,5 @@ use Rattle.recording.proofs.is_rendezvous.Tie as tie
 returns : tie.Need-returns
 returns c = tells-own _
 
-pub is-rendezvous-spec : {M : Type 1} → statement M
-is-rendezvous-spec = tie.close (tie.spec returns)
+pub is_rendezvous_spec : {M : Type 1} → statement M
+is_rendezvous_spec = tie.close (tie.spec returns)

@@ -7,33 +7,33 @@ use Rattle.refill.proofs.Moving.{counted}
 use Rattle.refill.proofs.refill.Statement.{statement}
 use Rattle.refill.proofs.refill.Tie as tie
 
-sub-rest : tie.Need-overflow-sub-rest
+sub-rest : tie.Need-overflow_sub-rest
 sub-rest c = search rules
 
-move-down-requires : tie.Need-move-down-requires
+move-down-requires : tie.Need-move_down-requires
 move-down-requires c κs = search rules
 
-sub-read-full : tie.Need-overflow-sub-read-full
+sub-read-full : tie.Need-slice_bounds-read_full-count
 sub-read-full c = search rules
 
-part-read-full-start : tie.Need-slice-bounds-read-full-start
+part-read-full-start : tie.Need-slice_bounds-read_full-start
 part-read-full-start c = search rules
 
-part-read-full-end : tie.Need-slice-bounds-read-full-end
+part-read-full-end : tie.Need-slice_bounds-read_full-end
 part-read-full-end c = search rules
 
-read-full-requires : tie.Need-read-full-requires
+read-full-requires : tie.Need-read_full-requires
 read-full-requires c κs = search rules
 
-add-result : tie.Need-overflow-add-result
+add-result : tie.Need-overflow_add-result
 add-result c = search rules
 
-same_length : tie.Need-same-length
+same_length : tie.Need-shape_of-buffer
 same_length c = search rules
 
 returns : tie.Need-returns
 returns c =
-    let reading = c.before.before.read-full in
+    let reading = c.before.before.read_full in
     let moving = c.before.before.before.before.before.before in
     let args = moving.before.before.before.args in
     let rest : ℕ = args.end - args.start in
@@ -47,8 +47,8 @@ returns c =
       counts = counted _ after within;
     }
 
-pub refill-spec : {M : Type 1} → statement M
-refill-spec =
+pub refill_spec : {M : Type 1} → statement M
+refill_spec =
     tie.close
     (tie.spec
     sub-rest

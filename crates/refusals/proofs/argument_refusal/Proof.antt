@@ -7,13 +7,13 @@ use Rattle.refusals.proofs.Laws.{first-joined}
 use Rattle.refusals.proofs.argument_refusal.Statement.{statement}
 use Rattle.refusals.proofs.argument_refusal.Tie as tie
 
-number-refusal-requires : tie.Need-number-refusal-requires
+number-refusal-requires : tie.Need-number_refusal-number-requires
 number-refusal-requires c κs = search rules
 
-mul-length-refusal : tie.Need-overflow-mul-length-refusal
+mul-length-refusal : tie.Need-overflow_mul-n
 mul-length-refusal c = search rules
 
-length-refusal-requires : tie.Need-length-refusal-requires
+length-refusal-requires : tie.Need-length_refusal-length-requires
 length-refusal-requires c κs = search rules
 
 first-requires : tie.Need-first-requires
@@ -23,10 +23,10 @@ returns : tie.Need-returns
 unfolding argument_rows no_thread
 returns c =
     let a = c.before.before.before.args in
-    λ t e. c.first.ensures ∙ first-joined (no_thread t a.x ∷ []) (bad_length (8 * t.n) a.words ∷ []) _ _ refl (c.before.before.number-refusal.ensures t e) (c.before.length-refusal.ensures ∙ ap (λ (k : ℕ). first_refusal (bad_length (8 * k) a.words ∷ [])) (sym e))
+    λ t e. c.first.ensures ∙ first-joined (no_thread t a.x ∷ []) (bad_length (8 * t.n) a.words ∷ []) _ _ refl (c.before.before.number_refusal-number.ensures t e) (c.before.length_refusal-length.ensures ∙ ap (λ (k : ℕ). first_refusal (bad_length (8 * k) a.words ∷ [])) (sym e))
 
-pub argument-refusal-spec : {M : Type 1} → statement M
-argument-refusal-spec =
+pub argument_refusal_spec : {M : Type 1} → statement M
+argument_refusal_spec =
     tie.close
     (tie.spec
     number-refusal-requires

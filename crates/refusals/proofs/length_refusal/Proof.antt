@@ -10,5 +10,5 @@ returns : tie.Need-returns
 unfolding bad_length
 returns c = c.row.ensures
 
-pub length-refusal-spec : {M : Type 1} → statement M
-length-refusal-spec = tie.close (tie.spec row-requires returns)
+pub length_refusal_spec : {M : Type 1} → statement M
+length_refusal_spec = tie.close (tie.spec row-requires returns)

@@ -9,7 +9,7 @@ use Rattle.refusals.proofs.load_refusal.Tie as tie
 
 returns : tie.Need-returns
 unfolding bad_rules
-returns c = λ t rules is. c.row.ensures ∙ row_as 14 _ _ (ap not (c.before.is-fit.ensures ∙ ap is_fit is))
+returns c = λ t rules is. c.row.ensures ∙ row_as 14 _ _ (ap not (c.before.is_fit.ensures ∙ ap is_fit is))
 
-pub load-refusal-spec : {M : Type 1} → statement M
-load-refusal-spec = tie.close (tie.spec (λ c κs. search rules) (λ c κs. search rules) returns)
+pub load_refusal_spec : {M : Type 1} → statement M
+load_refusal_spec = tie.close (tie.spec (λ c κs. search rules) (λ c κs. search rules) returns)

@@ -15,5 +15,5 @@ returns : tie.Need-returns
 unfolding lock_owned lock_free
 returns c = λ t x e. c.row.ensures ∙ row_as 4 _ _ (ap (λ (h : Thread). not (lock_free h)) (sym e))
 
-pub lock-refusal-spec : {M : Type 1} → statement M
-lock-refusal-spec = tie.close (tie.spec row-requires returns)
+pub lock_refusal_spec : {M : Type 1} → statement M
+lock_refusal_spec = tie.close (tie.spec row-requires returns)

@@ -14,5 +14,5 @@ returns : tie.Need-returns
 unfolding no_thread
 returns c = λ t e. c.row.ensures ∙ row_as 3 _ _ (ap (λ (k : ℕ). leb k c.before.args.x) (sym e))
 
-pub number-refusal-spec : {M : Type 1} → statement M
-number-refusal-spec = tie.close (tie.spec row-requires returns)
+pub number_refusal_spec : {M : Type 1} → statement M
+number_refusal_spec = tie.close (tie.spec row-requires returns)

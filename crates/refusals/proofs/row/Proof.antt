@@ -3,11 +3,11 @@ use Rattle.laws.proofs.Rows.{first-none, first-here, first-later}
 use Rattle.refusals.proofs.row.Statement.{statement}
 use Rattle.refusals.proofs.row.Tie as tie
 
-returns : tie.Need-returns
-returns c = sym (first-here _ _ c.if1.true)
+returns : tie.Need-returns-then-holds
+returns c = sym (first-here _ _ c.if-holds.true)
 
-returns-2 : tie.Need-returns-2
-returns-2 c = sym (first-later _ _ c.if1.false ∙ first-none)
+returns-2 : tie.Need-returns
+returns-2 c = sym (first-later _ _ c.if-holds.false ∙ first-none)
 
-pub row-spec : {M : Type 1} → statement M
-row-spec = tie.close (tie.spec returns returns-2)
+pub row_spec : {M : Type 1} → statement M
+row_spec = tie.close (tie.spec returns returns-2)

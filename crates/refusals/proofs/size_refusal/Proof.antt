@@ -11,5 +11,5 @@ returns : tie.Need-returns
 unfolding make_refusal bad_size size_in_range
 returns c = c.row.ensures
 
-pub size-refusal-spec : {M : Type 1} → statement M
-size-refusal-spec = tie.close (tie.spec row-requires returns)
+pub size_refusal_spec : {M : Type 1} → statement M
+size_refusal_spec = tie.close (tie.spec row-requires returns)

@@ -7,13 +7,13 @@ use Rattle.refusals.proofs.Laws.{first-joined, row_as}
 use Rattle.refusals.proofs.table_refusal.Statement.{statement}
 use Rattle.refusals.proofs.table_refusal.Tie as tie
 
-size-refusal-requires : tie.Need-size-refusal-requires
+size-refusal-requires : tie.Need-size_refusal-size-requires
 size-refusal-requires c κs = search rules
 
-well-formed-requires : tie.Need-well-formed-requires
+well-formed-requires : tie.Need-well_formed-requires
 well-formed-requires c κs = search rules
 
-row-requires : tie.Need-row-requires
+row-requires : tie.Need-row-formed-requires
 row-requires c κs = search rules
 
 first-requires : tie.Need-first-requires
@@ -23,9 +23,9 @@ returns : tie.Need-returns
 unfolding table_rows make_refusal bad_size not_well_formed
 returns c =
     let a = c.before.before.before.before.args in
-    c.first.ensures ∙ first-joined (bad_size a.table.n ∷ []) (not_well_formed a.table ∷ []) _ _ refl c.before.before.before.size-refusal.ensures (c.before.row.ensures ∙ row_as 2 _ _ (ap not c.before.before.well-formed-2.ensures))
+    c.first.ensures ∙ first-joined (bad_size a.table.n ∷ []) (not_well_formed a.table ∷ []) _ _ refl c.before.before.before.size_refusal-size.ensures (c.before.row-formed.ensures ∙ row_as 2 _ _ (ap not c.before.before.well_formed-2.ensures))
 
-pub table-refusal-spec : {M : Type 1} → statement M
-table-refusal-spec =
+pub table_refusal_spec : {M : Type 1} → statement M
+table_refusal_spec =
     tie.close
     (tie.spec size-refusal-requires well-formed-requires row-requires first-requires returns)

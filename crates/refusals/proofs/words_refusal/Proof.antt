@@ -4,17 +4,17 @@ use Rattle.refusals.proofs.words_refusal.Statement.{statement}
 use Rattle.refusals.proofs.words_refusal.Tie as tie
 
 -- through the main entry
-returns : tie.Need-returns
+returns : tie.Need-returns-in-Main
 unfolding too_many_words more_words
-returns c = rw c.before.before.before.enum_told.given.1 c.row.ensures
+returns c = rw c.before.before.before.in-Main.is c.row.ensures
 
 -- through the spark entry
-returns-2 : tie.Need-returns-2
+returns-2 : tie.Need-returns-in-Spark
 unfolding too_many_words more_words
-returns-2 c = rw c.before.before.before.enum-told2.given.1 c.row2.ensures
+returns-2 c = rw c.before.before.before.in-Spark.is c.row-in-Spark.ensures
 
-pub words-refusal-spec : {M : Type 1} → statement M
-words-refusal-spec =
+pub words_refusal_spec : {M : Type 1} → statement M
+words_refusal_spec =
     tie.close
     (tie.spec
     (λ c. search rules)

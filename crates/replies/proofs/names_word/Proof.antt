@@ -3,12 +3,12 @@ use Rattle.replies.proofs.names_word.Statement.{statement}
 use Rattle.replies.proofs.names_word.Tie as tie
 
 -- what is no number
-returns : tie.Need-returns
-returns c = names_none _ _ c.if1.true
+returns : tie.Need-returns-then-reason-eq-NOT_NUMBER
+returns c = names_none _ _ c.if-reason-eq-NOT_NUMBER.true
 
 -- another reason
-returns-2 : tie.Need-returns-2
-returns-2 c = names_some _ _ c.if1.false
+returns-2 : tie.Need-returns
+returns-2 c = names_some _ _ c.if-reason-eq-NOT_NUMBER.false
 
-pub names-word-spec : {M : Type 1} → statement M
-names-word-spec = tie.close (tie.spec returns returns-2)
+pub names_word_spec : {M : Type 1} → statement M
+names_word_spec = tie.close (tie.spec returns returns-2)

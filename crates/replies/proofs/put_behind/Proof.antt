@@ -10,29 +10,29 @@ use Rattle.replies.proofs.put_behind.Statement.{statement}
 use Rattle.replies.proofs.put_behind.Tie as tie
 
 -- the words before place `at` are written
-abbrev invariant-loop : tie.invariant-loop
+abbrev invariant-loop : tie.invariant-loop-at
 invariant-loop out₀ start line from end₀ at₀ out end at = (at ≤ length line) × Saying start line from at out₀ out end
 
 -- how many bytes of the line are left
-abbrev decreases-loop : tie.decreases-loop
+abbrev decreases-loop : tie.decreases-loop-at
 decreases-loop out₀ start line from end₀ at₀ out end at = length line - at
 
-loop-holds : tie.Need-loop-init invariant-loop decreases-loop
+loop-holds : tie.Need-loop-at-init invariant-loop decreases-loop
 loop-holds c = (search rules, nothing_said _ _ _ _)
 
-same_length : tie.Need-same-length invariant-loop decreases-loop
-same_length c = written-length c.before.before.before.loop.invariant.1.written
+same_length : tie.Need-shape_of-out-then-first-stop invariant-loop decreases-loop
+same_length c = written-length c.before.before.before.loop-at.invariant.1.written
 
-returns : tie.Need-returns invariant-loop decreases-loop
-returns c = all_said c.before.before.before.loop.invariant.1 (none_left c.before.next_word.ensures c.if1.true)
+returns : tie.Need-returns-then-first-stop invariant-loop decreases-loop
+returns c = all_said c.before.before.before.loop-at.invariant.1 (none_left c.before.next_word-word.ensures c.if-first-stop.true)
 
-loop-less : tie.Need-loop-smaller invariant-loop decreases-loop
+loop-less : tie.Need-loop-at-smaller invariant-loop decreases-loop
 loop-less c =
     let test = c.before.before.before.before.before.before.before.before.before in
-    let found = test.before.next_word.ensures in
-    omega (arith, found.after, found.ordered, found.within, test.if1.false)
+    let found = test.before.next_word-word.ensures in
+    omega (arith, found.after, found.ordered, found.within, test.if-first-stop.false)
 
-loop-again : tie.Need-loop-preserved invariant-loop decreases-loop
+loop-again : tie.Need-loop-at-preserved invariant-loop decreases-loop
 unfolding ascii up_to
 loop-again c =
     let written = c.before.before in
@@ -40,16 +40,16 @@ loop-again c =
     let test = gap.before.before in
     let found = test.before in
     let turn = found.before.before in
-    (found.next_word.ensures.within, word-said turn.loop.invariant.1 found.next_word.ensures test.if1.false gap.put_byte.ensures written.put-text.ensures)
+    (found.next_word-word.ensures.within, word-said turn.loop-at.invariant.1 found.next_word-word.ensures test.if-first-stop.false gap.put_byte-spaced.ensures written.put_text-end.ensures)
 
-same-length-2 : tie.Need-same-length-2 invariant-loop decreases-loop
-same-length-2 c = written-length c.before.loop.invariant.1.written
+same-length-2 : tie.Need-shape_of-out invariant-loop decreases-loop
+same-length-2 c = written-length c.before.loop-at.invariant.1.written
 
-returns-2 : tie.Need-returns-2 invariant-loop decreases-loop
-returns-2 c = all_said c.before.loop.invariant.1 (past_end _ _ c.loop-test.false)
+returns-2 : tie.Need-returns invariant-loop decreases-loop
+returns-2 c = all_said c.before.loop-at.invariant.1 (past_end _ _ c.loop-at-test.false)
 
-pub put-behind-spec : {M : Type 1} → statement M
-put-behind-spec =
+pub put_behind_spec : {M : Type 1} → statement M
+put_behind_spec =
     tie.close
     (tie.spec
     invariant-loop

@@ -5,20 +5,20 @@ use Rattle.replies.proofs.Said.{none_left, one_left}
 use Rattle.replies.proofs.put_joined.Statement.{statement}
 use Rattle.replies.proofs.put_joined.Tie as tie
 
-returns : tie.Need-returns
+returns : tie.Need-returns-then-first-stop
 unfolding joined_words
-returns c = rw (none_left c.before.next_word.ensures c.if1.true) (nothing_written _ _)
+returns c = rw (none_left c.before.next_word-word.ensures c.if-first-stop.true) (nothing_written _ _)
 
-returns-2 : tie.Need-returns-2
+returns-2 : tie.Need-returns
 unfolding joined_words
 returns-2 c =
     let behind = c.before.before in
     let first = behind.before.before.before.before in
     let test = first.before.before.before in
-    rw (one_left test.before.next_word.ensures test.if1.false) (first.put-text.ensures then behind.put-behind.ensures)
+    rw (one_left test.before.next_word-word.ensures test.if-first-stop.false) (first.put_text-end.ensures then behind.put_behind.ensures)
 
-pub put-joined-spec : {M : Type 1} → statement M
-put-joined-spec =
+pub put_joined_spec : {M : Type 1} → statement M
+put_joined_spec =
     tie.close
     (tie.spec
     (λ c κs. search rules)

@@ -7,73 +7,73 @@ use Rattle.replies.proofs.Said.{no-reason}
 use Rattle.replies.proofs.put_reason.Statement.{statement}
 use Rattle.replies.proofs.put_reason.Tie as tie
 
-returns : tie.Need-returns
+returns : tie.Need-returns-in-0
 unfolding reason_text reasons ascii up_to
-returns c = let written = c.before.before in rw written.before.before.before.match.keys1 written.put-text.ensures
+returns c = let written = c.before.before in rw written.before.before.before.match.keys1 written.put_text.ensures
 
-returns-2 : tie.Need-returns-2
+returns-2 : tie.Need-returns-in-1
 unfolding reason_text reasons ascii up_to
-returns-2 c = let written = c.before.before in rw written.before.before.before.match.keys2 written.put-text2.ensures
+returns-2 c = let written = c.before.before in rw written.before.before.before.match.keys2 written.put_text-in-1.ensures
 
-returns-3 : tie.Need-returns-3
+returns-3 : tie.Need-returns-in-2
 unfolding reason_text reasons ascii up_to
-returns-3 c = let written = c.before.before in rw written.before.before.before.match.keys3 written.put-text3.ensures
+returns-3 c = let written = c.before.before in rw written.before.before.before.match.keys3 written.put_text-in-2.ensures
 
-returns-4 : tie.Need-returns-4
+returns-4 : tie.Need-returns-in-3
 unfolding reason_text reasons ascii up_to
-returns-4 c = let written = c.before.before in rw written.before.before.before.match.keys4 written.put-text4.ensures
+returns-4 c = let written = c.before.before in rw written.before.before.before.match.keys4 written.put_text-in-3.ensures
 
-returns-5 : tie.Need-returns-5
+returns-5 : tie.Need-returns-in-4
 unfolding reason_text reasons ascii up_to
-returns-5 c = let written = c.before.before in rw written.before.before.before.match.keys5 written.put-text5.ensures
+returns-5 c = let written = c.before.before in rw written.before.before.before.match.keys5 written.put_text-in-4.ensures
 
-returns-6 : tie.Need-returns-6
+returns-6 : tie.Need-returns-in-5
 unfolding reason_text reasons ascii up_to
-returns-6 c = let written = c.before.before in rw written.before.before.before.match.keys6 written.put-text6.ensures
+returns-6 c = let written = c.before.before in rw written.before.before.before.match.keys6 written.put_text-in-5.ensures
 
-returns-7 : tie.Need-returns-7
+returns-7 : tie.Need-returns-in-6
 unfolding reason_text reasons ascii up_to
-returns-7 c = let written = c.before.before in rw written.before.before.before.match.keys7 written.put-text7.ensures
+returns-7 c = let written = c.before.before in rw written.before.before.before.match.keys7 written.put_text-in-6.ensures
 
-returns-8 : tie.Need-returns-8
+returns-8 : tie.Need-returns-in-7
 unfolding reason_text reasons ascii up_to
-returns-8 c = let written = c.before.before in rw written.before.before.before.match.keys8 written.put-text8.ensures
+returns-8 c = let written = c.before.before in rw written.before.before.before.match.keys8 written.put_text-in-7.ensures
 
-returns-9 : tie.Need-returns-9
+returns-9 : tie.Need-returns-in-8
 unfolding reason_text reasons ascii up_to
-returns-9 c = let written = c.before.before in rw written.before.before.before.match.keys9 written.put-text9.ensures
+returns-9 c = let written = c.before.before in rw written.before.before.before.match.keys9 written.put_text-in-8.ensures
 
-returns-10 : tie.Need-returns-10
+returns-10 : tie.Need-returns-in-9
 unfolding reason_text reasons ascii up_to
-returns-10 c = let written = c.before.before in rw written.before.before.before.match.keys10 written.put-text10.ensures
+returns-10 c = let written = c.before.before in rw written.before.before.before.match.keys10 written.put_text-in-9.ensures
 
-returns-11 : tie.Need-returns-11
+returns-11 : tie.Need-returns-in-10
 unfolding reason_text reasons ascii up_to
-returns-11 c = let written = c.before.before in rw written.before.before.before.match.keys11 written.put-text11.ensures
+returns-11 c = let written = c.before.before in rw written.before.before.before.match.keys11 written.put_text-in-10.ensures
 
-returns-12 : tie.Need-returns-12
+returns-12 : tie.Need-returns-in-11
 unfolding reason_text reasons ascii up_to
-returns-12 c = let written = c.before.before in rw written.before.before.before.match.keys12 written.put-text12.ensures
+returns-12 c = let written = c.before.before in rw written.before.before.before.match.keys12 written.put_text-in-11.ensures
 
-returns-13 : tie.Need-returns-13
+returns-13 : tie.Need-returns-in-12
 unfolding reason_text reasons ascii up_to
-returns-13 c = let written = c.before.before in rw written.before.before.before.match.keys13 written.put-text13.ensures
+returns-13 c = let written = c.before.before in rw written.before.before.before.match.keys13 written.put_text-in-12.ensures
 
-returns-14 : tie.Need-returns-14
+returns-14 : tie.Need-returns-in-13
 unfolding reason_text reasons ascii up_to
-returns-14 c = let written = c.before.before in rw written.before.before.before.match.keys14 written.put-text14.ensures
+returns-14 c = let written = c.before.before in rw written.before.before.before.match.keys14 written.put_text-in-13.ensures
 
-returns-15 : tie.Need-returns-15
+returns-15 : tie.Need-returns-in-14
 unfolding reason_text reasons ascii up_to
-returns-15 c = let written = c.before.before in rw written.before.before.before.match.keys15 written.put-text15.ensures
+returns-15 c = let written = c.before.before in rw written.before.before.before.match.keys15 written.put_text-in-14.ensures
 
 -- past the last there is none
-returns-16 : tie.Need-returns-16
-returns-16 c = let (((((((((((((((u, k0), k1), k2), k3), k4), k5), k6), k7), k8), k9), k10), k11), k12), k13), k14) = c.match.rest in
+returns-16 : tie.Need-returns-in_default
+returns-16 c = let (((((((((((((((u, k0), k1), k2), k3), k4), k5), k6), k7), k8), k9), k10), k11), k12), k13), k14) = c.in_default.in_default-own.rest in
     rw (no-reason c.before.before.args.reason k0 k1 k2 k3 k4 k5 k6 k7 k8 k9 k10 k11 k12 k13 k14) (nothing_written _ _)
 
-pub put-reason-spec : {M : Type 1} → statement M
-put-reason-spec =
+pub put_reason_spec : {M : Type 1} → statement M
+put_reason_spec =
     tie.close
     (tie.spec
     (λ c. search rules)

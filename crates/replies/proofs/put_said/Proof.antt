@@ -8,23 +8,23 @@ use Rattle.replies.proofs.Said.{none_left, one_left}
 use Rattle.replies.proofs.put_said.Statement.{statement}
 use Rattle.replies.proofs.put_said.Tie as tie
 
-returns : tie.Need-returns
+returns : tie.Need-returns-then-command
 unfolding said_text joined_words ascii up_to
 returns c =
     let ended = c.before.before in
     let test = ended.before.before in
-    rw (none_left test.before.before.next_word.ensures test.if1.true) ended.put_byte.ensures
+    rw (none_left test.before.before.next_word-command.ensures test.if-command.true) ended.put_byte.ensures
 
-returns-2 : tie.Need-returns-2
+returns-2 : tie.Need-returns
 unfolding said_text ascii up_to
 returns-2 c =
     let ended = c.before.before in
     let joined = ended.before.before.before.before in
     let test = joined.before.before in
-    rw (one_left test.before.before.next_word.ensures test.if1.false) (joined.put-joined.ensures then ended.put-byte2.ensures)
+    rw (one_left test.before.before.next_word-command.ensures test.if-command.false) (joined.put_joined-end.ensures then ended.put_byte-2.ensures)
 
-pub put-said-spec : {M : Type 1} → statement M
-put-said-spec =
+pub put_said_spec : {M : Type 1} → statement M
+put_said_spec =
     tie.close
     (tie.spec
     (λ c κs. search rules)

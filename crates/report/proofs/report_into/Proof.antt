@@ -398,9 +398,9 @@ module _ {M : Type 1} {𝓤 : Ura M} (𝓛 : Logic 𝓤) (at_mem : Memory → SP
       walk_Meets 𝓛 report-into.ended stayed goes Promises (Body 𝓣) (WpFn-mono 𝓤 H 𝓛.laws 𝓣 code.function) (walks 𝓣 reports reads)
 
 -- the function meets its contract
-pub report-into-spec : {M : Type 1} → stated.statement M
+pub report_into_spec : {M : Type 1} → stated.statement M
 unfolding code.routine tables_of
-report-into-spec 𝓤 𝓛 𝓜 𝓡 =
+report_into_spec 𝓤 𝓛 𝓜 𝓡 =
     entered 𝓤 𝓛.H (triple_of 𝓛 report-into.signature (report-into.spec 𝓛 𝓜.mem 𝓡.run))
     (tables 𝓤 𝓛.H 𝓜 𝓡 code.env).C (tables 𝓤 𝓛.H 𝓜 𝓡 code.env).Λ key.name code.function (code.unfolded 𝓤 𝓛.H 𝓜 𝓡)
     (meets 𝓛 𝓜.mem 𝓡.run (tables_of 𝓤 𝓛.H 𝓜 (tables 𝓤 𝓛.H 𝓜 𝓡 code.env))

@@ -5,14 +5,14 @@ use Rattle.rules.proofs.Counting.{row_counts, row-counts-not}
 use Rattle.rules.proofs.count_row.Statement.{statement}
 use Rattle.rules.proofs.count_row.Tie as tie
 
-returns : tie.Need-returns
-returns c = row-counts-not _ _ _ _ (sym c.before.in-range.ensures ∙ not-true c.before.in-range.result c.if1.true) c.before.before.before.requires.1.whole
+returns : tie.Need-returns-then-not-in_range
+returns c = row-counts-not _ _ _ _ (sym c.before.in_range.ensures ∙ not-true c.before.in_range.result c.if-not-in_range.true) c.before.before.before.requires.1.whole
 
-count-range-requires : tie.Need-count-range-requires
+count-range-requires : tie.Need-count_range-requires
 count-range-requires c κs = c.before.before.before.before.before.requires
 
-returns-2 : tie.Need-returns-2
-returns-2 c = let tested = c.before.before.before.before in row_counts _ _ _ _ (sym tested.in-range.ensures ∙ not-false tested.in-range.result c.before.before.before.if1.false) _ c.count-range.ensures
+returns-2 : tie.Need-returns
+returns-2 c = let tested = c.before.before.before.before in row_counts _ _ _ _ (sym tested.in_range.ensures ∙ not-false tested.in_range.result c.before.before.before.if-not-in_range.false) _ c.count_range.ensures
 
-pub count-row-spec : {M : Type 1} → statement M
-count-row-spec = tie.close (tie.spec (λ c κs. search rules) returns count-range-requires returns-2)
+pub count_row_spec : {M : Type 1} → statement M
+count_row_spec = tie.close (tie.spec (λ c κs. search rules) returns count-range-requires returns-2)

@@ -6,7 +6,7 @@ use Rattle.rules.proofs.holds_pair.Tie as tie
 
 returns : tie.Need-returns
 unfolding holds_pair
-returns c = rw (c.before.in-range.ensures, c.in-range2.ensures) refl
+returns c = rw (c.before.in_range.ensures, c.in_range-2.ensures) refl
 
-pub holds-pair-spec : {M : Type 1} → statement M
-holds-pair-spec = tie.close (tie.spec (λ c κs. search rules) (λ c κs. search rules) returns)
+pub holds_pair_spec : {M : Type 1} → statement M
+holds_pair_spec = tie.close (tie.spec (λ c κs. search rules) (λ c κs. search rules) returns)

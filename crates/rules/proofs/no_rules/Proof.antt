@@ -7,5 +7,5 @@ returns : tie.Need-returns
 unfolding no_rules
 returns c = refl
 
-pub no-rules-spec : {M : Type 1} → statement M
-no-rules-spec = tie.close (tie.spec returns)
+pub no_rules_spec : {M : Type 1} → statement M
+no_rules_spec = tie.close (tie.spec returns)

@@ -5,19 +5,19 @@ use Rattle.rules.proofs.pair_misfit.Statement.{statement}
 use Rattle.rules.proofs.pair_misfit.Tie as tie
 
 -- a gap
-returns : tie.Need-returns
+returns : tie.Need-returns-then-count-eq0
 unfolding pair_misfit
-returns c = rw (eq-eqb _ _ c.if1.true) refl
+returns c = rw (eq-eqb _ _ c.if-count-eq0.true) refl
 
 -- one row
-returns-2 : tie.Need-returns-2
+returns-2 : tie.Need-returns-then-count-eq1
 unfolding pair_misfit
-returns-2 c = rw (ne_eqb _ _ c.before.if1.false, eq-eqb _ _ c.if2.true) refl
+returns-2 c = rw (ne_eqb _ _ c.before.if-count-eq0.false, eq-eqb _ _ c.if-count-eq1.true) refl
 
 -- an overlap
-returns-3 : tie.Need-returns-3
+returns-3 : tie.Need-returns
 unfolding pair_misfit
-returns-3 c = rw (ne_eqb _ _ c.before.if1.false, ne_eqb _ _ c.if2.false) refl
+returns-3 c = rw (ne_eqb _ _ c.before.if-count-eq0.false, ne_eqb _ _ c.if-count-eq1.false) refl
 
-pub pair-misfit-spec : {M : Type 1} → statement M
-pair-misfit-spec = tie.close (tie.spec returns returns-2 returns-3)
+pub pair_misfit_spec : {M : Type 1} → statement M
+pair_misfit_spec = tie.close (tie.spec returns returns-2 returns-3)

@@ -6,14 +6,14 @@ use Rattle.rules.proofs.rules_fit.Statement.{statement}
 use Rattle.rules.proofs.rules_fit.Tie as tie
 
 -- no rules
-returns : tie.Need-returns
+returns : tie.Need-returns-then-rules-eq0
 unfolding rules_fit
-returns c = rw (eq-eqb _ _ c.if1.true) refl
+returns c = rw (eq-eqb _ _ c.if-rules-eq0.true) refl
 
 -- rules that fit, or not
-returns-2 : tie.Need-returns-2
+returns-2 : tie.Need-returns
 unfolding rules_fit
-returns-2 c = c.is-fit.ensures ∙ ap is_fit c.before.misfit-of.ensures ∙ sym (rw (ne_eqb _ _ c.before.before.if1.false) refl)
+returns-2 c = c.is_fit.ensures ∙ ap is_fit c.before.misfit_of-misfit.ensures ∙ sym (rw (ne_eqb _ _ c.before.before.if-rules-eq0.false) refl)
 
-pub rules-fit-spec : {M : Type 1} → statement M
-rules-fit-spec = tie.close (tie.spec returns (λ c κs. search rules) (λ c κs. search rules) returns-2)
+pub rules_fit_spec : {M : Type 1} → statement M
+rules_fit_spec = tie.close (tie.spec returns (λ c κs. search rules) (λ c κs. search rules) returns-2)

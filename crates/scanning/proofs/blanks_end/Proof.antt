@@ -10,29 +10,29 @@ use Rattle.scanning.proofs.blanks_end.Statement.{statement}
 use Rattle.scanning.proofs.blanks_end.Tie as tie
 
 -- every byte so far is one of the run
-abbrev invariant-loop : tie.invariant-loop
+abbrev invariant-loop : tie.invariant-loop-i
 invariant-loop line from i₀ i = Passing is_blank line from i
 
 -- how many bytes are left
-abbrev decreases-loop : tie.decreases-loop
+abbrev decreases-loop : tie.decreases-loop-i
 decreases-loop line from i₀ i = length line - i
 
 -- the run starts with no byte
-loop-holds : tie.Need-loop-init invariant-loop decreases-loop
+loop-holds : tie.Need-loop-i-init invariant-loop decreases-loop
 loop-holds c = passing-start _ _ _ c.before.requires
 
 -- it ends at the first other byte
-returns : tie.Need-returns invariant-loop decreases-loop
-returns c = run-here _ _ _ c.before.before.before.before.loop.invariant (sym c.before.is-blank.ensures ∙ not-true c.before.is-blank.result c.if1.true)
+returns : tie.Need-returns-then-not-is_blank invariant-loop decreases-loop
+returns c = run-here _ _ _ c.before.before.before.before.loop-i.invariant (sym c.before.is_blank.ensures ∙ not-true c.before.is_blank.result c.if-not-is_blank.true)
 
 -- it goes on
-loop-again : tie.Need-loop-preserved invariant-loop decreases-loop
-loop-again c = passing-more _ _ _ c.before.before.before.before.loop.invariant c.before.before.before.loop-test.true (sym c.before.is-blank.ensures ∙ not-false c.before.is-blank.result c.if1.false)
+loop-again : tie.Need-loop-i-preserved invariant-loop decreases-loop
+loop-again c = passing-more _ _ _ c.before.before.before.before.loop-i.invariant c.before.before.before.loop-i-test.true (sym c.before.is_blank.ensures ∙ not-false c.before.is_blank.result c.if-not-is_blank.false)
 
 -- or ends where the bytes do
-returns-2 : tie.Need-returns-2 invariant-loop decreases-loop
-returns-2 c = run_end _ _ _ c.before.loop.invariant c.loop-test.false
+returns-2 : tie.Need-returns invariant-loop decreases-loop
+returns-2 c = run_end _ _ _ c.before.loop-i.invariant c.loop-i-test.false
 
-pub blanks-end-spec : {M : Type 1} → statement M
-blanks-end-spec =
+pub blanks_end_spec : {M : Type 1} → statement M
+blanks_end_spec =
     tie.close (tie.spec invariant-loop decreases-loop loop-holds (λ c. search rules) (λ c κs. search rules) returns (λ c. search rules) (λ c. search rules) loop-again returns-2)

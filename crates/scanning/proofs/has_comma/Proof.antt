@@ -6,7 +6,7 @@ use Rattle.scanning.proofs.has_comma.Tie as tie
 
 -- the first piece ends before the word does
 returns : tie.Need-returns
-returns c = sym (comma-found _ _ _ c.piece-end.ensures)
+returns c = sym (comma-found _ _ _ c.piece_end.ensures)
 
-pub has-comma-spec : {M : Type 1} → statement M
-has-comma-spec = tie.close (tie.spec (λ c κs. search rules) returns)
+pub has_comma_spec : {M : Type 1} → statement M
+has_comma_spec = tie.close (tie.spec (λ c κs. search rules) returns)

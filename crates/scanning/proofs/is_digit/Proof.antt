@@ -5,14 +5,14 @@ use Rattle.scanning.proofs.is_digit.Statement.{statement}
 use Rattle.scanning.proofs.is_digit.Tie as tie
 
 -- a byte before the first digit is none
-returns : tie.Need-returns
+returns : tie.Need-returns-then-byte-lt-ZERO
 unfolding is_digit
-returns c = rw (lt-leb _ _ c.if1.true) refl
+returns c = rw (lt-leb _ _ c.if-byte-lt-ZERO.true) refl
 
 -- another is one up to the last
-returns-2 : tie.Need-returns-2
+returns-2 : tie.Need-returns
 unfolding is_digit
-returns-2 c = rw (le-leb _ _ c.if1.false) refl
+returns-2 c = rw (le-leb _ _ c.if-byte-lt-ZERO.false) refl
 
-pub is-digit-spec : {M : Type 1} → statement M
-is-digit-spec = tie.close (tie.spec returns returns-2)
+pub is_digit_spec : {M : Type 1} → statement M
+is_digit_spec = tie.close (tie.spec returns returns-2)

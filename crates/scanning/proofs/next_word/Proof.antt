@@ -5,7 +5,7 @@ use Rattle.scanning.proofs.next_word.Tie as tie
 
 -- behind the blanks stands the word
 returns : tie.Need-returns
-returns c = word-found _ _ _ _ c.before.blanks-end.ensures c.word-end.ensures
+returns c = word-found _ _ _ _ c.before.blanks_end-start.ensures c.word_end-end.ensures
 
-pub next-word-spec : {M : Type 1} → statement M
-next-word-spec = tie.close (tie.spec (λ c κs. search rules) (λ c κs. search rules) returns)
+pub next_word_spec : {M : Type 1} → statement M
+next_word_spec = tie.close (tie.spec (λ c κs. search rules) (λ c κs. search rules) returns)

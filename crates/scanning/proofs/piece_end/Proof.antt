@@ -9,29 +9,29 @@ use Rattle.scanning.proofs.piece_end.Statement.{statement}
 use Rattle.scanning.proofs.piece_end.Tie as tie
 
 -- every byte so far is one of the run
-abbrev invariant-loop : tie.invariant-loop
+abbrev invariant-loop : tie.invariant-loop-i
 invariant-loop word from i₀ i = Passing of_piece word from i
 
 -- how many bytes are left
-abbrev decreases-loop : tie.decreases-loop
+abbrev decreases-loop : tie.decreases-loop-i
 decreases-loop word from i₀ i = length word - i
 
 -- the run starts with no byte
-loop-holds : tie.Need-loop-init invariant-loop decreases-loop
+loop-holds : tie.Need-loop-i-init invariant-loop decreases-loop
 loop-holds c = passing-start _ _ _ c.requires
 
 -- it ends at the first other byte
-returns : tie.Need-returns invariant-loop decreases-loop
-returns c = run-here _ _ _ c.before.before.before.loop.invariant (rw (eq-eqb _ _ c.if1.true) refl)
+returns : tie.Need-returns-then-word-i-eq-COMMA invariant-loop decreases-loop
+returns c = run-here _ _ _ c.before.before.before.loop-i.invariant (rw (eq-eqb _ _ c.if-word-i-eq-COMMA.true) refl)
 
 -- it goes on
-loop-again : tie.Need-loop-preserved invariant-loop decreases-loop
-loop-again c = passing-more _ _ _ c.before.before.before.loop.invariant c.before.before.loop-test.true (rw (ne_eqb _ _ c.if1.false) refl)
+loop-again : tie.Need-loop-i-preserved invariant-loop decreases-loop
+loop-again c = passing-more _ _ _ c.before.before.before.loop-i.invariant c.before.before.loop-i-test.true (rw (ne_eqb _ _ c.if-word-i-eq-COMMA.false) refl)
 
 -- or ends where the bytes do
-returns-2 : tie.Need-returns-2 invariant-loop decreases-loop
-returns-2 c = run_end _ _ _ c.before.loop.invariant c.loop-test.false
+returns-2 : tie.Need-returns invariant-loop decreases-loop
+returns-2 c = run_end _ _ _ c.before.loop-i.invariant c.loop-i-test.false
 
-pub piece-end-spec : {M : Type 1} → statement M
-piece-end-spec =
+pub piece_end_spec : {M : Type 1} → statement M
+piece_end_spec =
     tie.close (tie.spec invariant-loop decreases-loop loop-holds (λ c. search rules) returns (λ c. search rules) (λ c. search rules) loop-again returns-2)

@@ -5,16 +5,16 @@ use Rattle.scanning.proofs.without_return.Statement.{statement}
 use Rattle.scanning.proofs.without_return.Tie as tie
 
 -- an empty line
-returns : tie.Need-returns
-returns c = shortened_none _ c.if1.true
+returns : tie.Need-returns-then-n-eq0
+returns c = shortened_none _ c.if-n-eq0.true
 
 -- a CR at the end
-returns-2 : tie.Need-returns-2
-returns-2 c = shortened_return _ (omega arith) c.if2.true
+returns-2 : tie.Need-returns-then-line-n-eq-RETURN
+returns-2 c = shortened_return _ (omega arith) c.if-line-n-eq-RETURN.true
 
 -- another byte
-returns-3 : tie.Need-returns-3
-returns-3 c = shortened_other _ (omega arith) c.if2.false
+returns-3 : tie.Need-returns
+returns-3 c = shortened_other _ (omega arith) c.if-line-n-eq-RETURN.false
 
-pub without-return-spec : {M : Type 1} → statement M
-without-return-spec = tie.close (tie.spec returns (λ c. search rules) (λ c. search rules) (λ c. search rules) returns-2 returns-3)
+pub without_return_spec : {M : Type 1} → statement M
+without_return_spec = tie.close (tie.spec returns (λ c. search rules) (λ c. search rules) (λ c. search rules) returns-2 returns-3)

@@ -12,10 +12,10 @@ returns c =
     let number3-done = number4-done.before.before.before.before.before in
     let number2-done = number3-done.before.before.before.before.before in
     let number-done = number2-done.before.before.before.before.before in
-    number-done.put-number.ensures then number2-done.put-number2.ensures then number3-done.put-number3.ensures then number4-done.put-number4.ensures then number5-done.put-number5.ensures
+    number-done.put_number-first.ensures then number2-done.put_number-second.ensures then number3-done.put_number-third.ensures then number4-done.put_number-fourth.ensures then number5-done.put_number.ensures
 
-pub put-flags-spec : {M : Type 1} → statement M
-put-flags-spec =
+pub put_flags_spec : {M : Type 1} → statement M
+put_flags_spec =
     tie.close
     (tie.spec
     (λ c. search rules)

@@ -7,32 +7,32 @@ use Rattle.text.proofs.Writing.{◌then◌}
 use Rattle.showing.proofs.put_left.Statement.{statement}
 use Rattle.showing.proofs.put_left.Tie as tie
 
-returns : tie.Need-returns
+returns : tie.Need-returns-then-left-eq-NEVER
 unfolding left_text ascii up_to
 returns c =
     let text-done = c.before.before in
     let test2 = text-done.before.before.before in
     let test1 = test2.before in
-    rw (test1.if1.true, eq-eqb _ _ test2.if2.true) text-done.put-text.ensures
+    rw (test1.if1.true, eq-eqb _ _ test2.if2.true) text-done.put_text.ensures
 
-returns-2 : tie.Need-returns-2
+returns-2 : tie.Need-returns-then-used
 unfolding left_text ascii up_to
 returns-2 c =
     let number-done = c.before.before in
     let text2-done = number-done.before.before.before.before in
     let test2 = text2-done.before.before.before in
     let test1 = test2.before in
-    rw (test1.if1.true, ne_eqb _ _ test2.if2.false) (text2-done.put-text2.ensures then number-done.put-number.ensures)
+    rw (test1.if1.true, ne_eqb _ _ test2.if2.false) (text2-done.put_text-named.ensures then number-done.put_number.ensures)
 
-returns-3 : tie.Need-returns-3
+returns-3 : tie.Need-returns
 unfolding left_text ascii up_to
 returns-3 c =
     let text3-done = c.before.before in
     let test1 = text3-done.before.before.before in
-    rw test1.if1.false text3-done.put-text3.ensures
+    rw test1.if1.false text3-done.put_text-2.ensures
 
-pub put-left-spec : {M : Type 1} → statement M
-put-left-spec =
+pub put_left_spec : {M : Type 1} → statement M
+put_left_spec =
     tie.close
     (tie.spec
     (λ c. search rules)

@@ -23,11 +23,11 @@ returns c =
     let signed-done = byte-done.before.before.before.before in
     let text-done = signed-done.before.before.before.before.before in
     let entry = text-done.before.before.before.before in
-    let code = rw (to_z-of_z (code_fits entry)) at signed-done.put-signed.ensures in
-    text-done.put-text.ensures then code then byte-done.put_byte.ensures then number-done.put-number.ensures then byte2-done.put-byte2.ensures then number2-done.put-number2.ensures
+    let code = rw (to_z-of_z (code_fits entry)) at signed-done.put_signed-coded.ensures in
+    text-done.put_text-named.ensures then code then byte-done.put_byte-first.ensures then number-done.put_number-sourced.ensures then byte2-done.put_byte-second.ensures then number2-done.put_number.ensures
 
-pub put-outcome-spec : {M : Type 1} → statement M
-put-outcome-spec =
+pub put_outcome_spec : {M : Type 1} → statement M
+put_outcome_spec =
     tie.close
     (tie.spec
     (λ c. search rules)

@@ -11,10 +11,10 @@ unfolding queue_text ascii up_to
 returns c =
     let senders-done = c.before.before in
     let text-done = senders-done.before.before.before.before.before in
-    text-done.put-text.ensures then senders-done.put-senders.ensures
+    text-done.put_text-named.ensures then senders-done.put_senders.ensures
 
-pub put-queue-spec : {M : Type 1} → statement M
-put-queue-spec =
+pub put_queue_spec : {M : Type 1} → statement M
+put_queue_spec =
     tie.close
     (tie.spec
     (λ c. search rules)

@@ -14,10 +14,10 @@ returns c =
     let text2-done = flags-done.before.before.before.before in
     let number-done = text2-done.before.before.before.before.before in
     let text-done = number-done.before.before.before.before.before in
-    text-done.put-text.ensures then number-done.put-number.ensures then text2-done.put-text2.ensures then flags-done.put-flags.ensures then left-done.put-left.ensures
+    text-done.put-text.ensures then number-done.put-number.ensures then text2-done.put_text-second.ensures then flags-done.put_flags-flagged.ensures then left-done.put_left.ensures
 
-pub put-state-spec : {M : Type 1} → statement M
-put-state-spec =
+pub put_state_spec : {M : Type 1} → statement M
+put_state_spec =
     tie.close
     (tie.spec
     (λ c. search rules)

@@ -12,10 +12,10 @@ returns c =
     let dashes-done = c.before.before in
     let words-done = dashes-done.before.before.before.before in
     let text-done = words-done.before.before.before.before in
-    text-done.put-text.ensures then words-done.put-words.ensures.0 then dashes-done.put-dashes.ensures
+    text-done.put_text-named.ensures then words-done.put_words-stored.ensures.0 then dashes-done.put_dashes.ensures
 
-pub put-store-spec : {M : Type 1} → statement M
-put-store-spec =
+pub put_store_spec : {M : Type 1} → statement M
+put_store_spec =
     tie.close
     (tie.spec
     (λ c. search rules)

@@ -13,10 +13,10 @@ returns c =
     let used-done = used2-done.before.before.before.before.before in
     let number-done = used-done.before.before.before.before.before in
     let text-done = number-done.before.before.before.before.before in
-    text-done.put-text.ensures then number-done.put-number.ensures then used-done.put-used.ensures then used2-done.put-used2.ensures
+    text-done.put-text.ensures then number-done.put-number.ensures then used-done.put-used.ensures then used2-done.put_used.ensures
 
-pub put-ties-spec : {M : Type 1} → statement M
-put-ties-spec =
+pub put_ties_spec : {M : Type 1} → statement M
+put_ties_spec =
     tie.close
     (tie.spec
     (λ c. search rules)

@@ -23,15 +23,15 @@ abbrev put-number-below : ℕ → In 1 put-number-kinds.ps
 put-number-below t = and 1 put-number-kinds.ps (falls 1 put-number-kinds.ps ◌<◌ μ-put-number t) put-number.Pre
 
 -- one digit is its byte; more are those of the tenth, and then the last
-pub +put-number-spec : {M : Type 1} → statement M
-+put-number-spec = close μ-put-number λ t. put-number-lts.spec (put-byte-reads.Asked, put-byte-reads.Learnt, put-number-below t, put-number.Post) (put-number-at t) put-number.Post
+pub +put_number_spec : {M : Type 1} → statement M
++put_number_spec = close μ-put-number λ t. put-number-lts.spec (put-byte-reads.Asked, put-byte-reads.Learnt, put-number-below t, put-number.Post) (put-number-at t) put-number.Post
     (λ c. search rules)
     (λ c. search rules)
     (λ c κs. search rules)
     (λ c. search rules)
-    (λ c. rw (decimal-one _ c.before.before.before.before.if1.true) c.before.before.put_byte.ensures)
-    (λ c κs. (omega (arith, c.before.before.before.requires.0, c.before.if1.false), tt))
+    (λ c. rw (decimal-one _ c.before.before.before.before.if-n-lt10.true) c.before.before.put_byte.ensures)
+    (λ c κs. (omega (arith, c.before.before.before.requires.0, c.before.if-n-lt10.false), tt))
     (λ c κs. search rules)
     (λ c. search rules)
     (λ c. let called = c.before.before.before.before.before.before in
-    rw (decimal-more _ called.before.before.if1.false) (called.put-number.ensures then c.before.before.put-byte2.ensures))
+    rw (decimal-more _ called.before.before.if-n-lt10.false) (called.put_number-end.ensures then c.before.before.put_byte-2.ensures))

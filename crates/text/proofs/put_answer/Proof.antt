@@ -6,162 +6,162 @@ use Rattle.text.proofs.Writing.{◌then◌}
 use Rattle.text.proofs.put_answer.Statement.{statement}
 use Rattle.text.proofs.put_answer.Tie as tie
 
-enum-known-answer : tie.Need-enum-known-answer
+enum-known-answer : tie.Need-enum_known-answer
 enum-known-answer c = search rules
 
 slice-aggregate-put-text : tie.Need-slice-aggregate-put-text
 slice-aggregate-put-text c = search rules
 
-put-text-requires : tie.Need-put-text-requires
+put-text-requires : tie.Need-put_text-end-requires
 put-text-requires c κs = search rules
 
-cast-put-number : tie.Need-overflow-cast-put-number
+cast-put-number : tie.Need-overflow_cast-number
 cast-put-number c = search rules
 
-put-number-requires : tie.Need-put-number-requires
+put-number-requires : tie.Need-put_number-requires
 put-number-requires c κs = search rules
 
-enum_told : tie.Need-enum-told
+enum_told : tie.Need-enum_told-1
 enum_told c = search rules
 
 slice-aggregate-put-text-2 : tie.Need-slice-aggregate-put-text-2
 slice-aggregate-put-text-2 c = search rules
 
-put-text-requires-2 : tie.Need-put-text-requires-2
+put-text-requires-2 : tie.Need-put_text-requires
 put-text-requires-2 c κs = search rules
 
-enum-told-2 : tie.Need-enum-told-2
+enum-told-2 : tie.Need-enum_told-in-Marked
 enum-told-2 c = search rules
 
 slice-aggregate-put-text-3 : tie.Need-slice-aggregate-put-text-3
 slice-aggregate-put-text-3 c = search rules
 
-put-text-requires-3 : tie.Need-put-text-requires-3
+put-text-requires-3 : tie.Need-put_text-requires-in-Marked
 put-text-requires-3 c κs = search rules
 
-enum-told-3 : tie.Need-enum-told-3
+enum-told-3 : tie.Need-enum_told-in-NothingToCancel
 enum-told-3 c = search rules
 
 slice-aggregate-put-text-4 : tie.Need-slice-aggregate-put-text-4
 slice-aggregate-put-text-4 c = search rules
 
-put-text-requires-4 : tie.Need-put-text-requires-4
+put-text-requires-4 : tie.Need-put_text-requires-in-NothingToCancel
 put-text-requires-4 c κs = search rules
 
-enum-told-4 : tie.Need-enum-told-4
+enum-told-4 : tie.Need-enum_told-in-Moved
 enum-told-4 c = search rules
 
 slice-aggregate-put-text-5 : tie.Need-slice-aggregate-put-text-5
 slice-aggregate-put-text-5 c = search rules
 
-put-text-requires-5 : tie.Need-put-text-requires-5
+put-text-requires-5 : tie.Need-put_text-requires-in-Moved
 put-text-requires-5 c κs = search rules
 
-enum-told-5 : tie.Need-enum-told-5
+enum-told-5 : tie.Need-enum_told-in-Idle
 enum-told-5 c = search rules
 
 slice-aggregate-put-text-6 : tie.Need-slice-aggregate-put-text-6
 slice-aggregate-put-text-6 c = search rules
 
-put-text-requires-6 : tie.Need-put-text-requires-6
+put-text-requires-6 : tie.Need-put_text-requires-in-Idle
 put-text-requires-6 c κs = search rules
 
-enum-told-6 : tie.Need-enum-told-6
+enum-told-6 : tie.Need-enum_told-in-Held
 enum-told-6 c = search rules
 
 slice-aggregate-put-text-7 : tie.Need-slice-aggregate-put-text-7
 slice-aggregate-put-text-7 c = search rules
 
-put-text-requires-7 : tie.Need-put-text-requires-7
+put-text-requires-7 : tie.Need-put_text-requires-in-Held
 put-text-requires-7 c κs = search rules
 
-enum-told-7 : tie.Need-enum-told-7
+enum-told-7 : tie.Need-enum_told-in-Wants
 enum-told-7 c = search rules
 
 slice-aggregate-put-text-8 : tie.Need-slice-aggregate-put-text-8
 slice-aggregate-put-text-8 c = search rules
 
-put-text-requires-8 : tie.Need-put-text-requires-8
+put-text-requires-8 : tie.Need-put_text-requires-in-Wants
 put-text-requires-8 c κs = search rules
 
-enum-told-8 : tie.Need-enum-told-8
+enum-told-8 : tie.Need-enum_told-in-Asleep
 enum-told-8 c = search rules
 
 slice-aggregate-put-text-9 : tie.Need-slice-aggregate-put-text-9
 slice-aggregate-put-text-9 c = search rules
 
-put-text-requires-9 : tie.Need-put-text-requires-9
+put-text-requires-9 : tie.Need-put_text-requires-in-Asleep
 put-text-requires-9 c κs = search rules
 
-same_length : tie.Need-same-length
+same_length : tie.Need-shape_of-out-in-Refused
 same_length c = search rules
 
-returns : tie.Need-returns
+returns : tie.Need-returns-in-Refused
 unfolding answer_text ascii up_to
 returns c =
     let numbered = c.before.before in
     let named = numbered.before.before.before.before in
     let arm = named.before.before.before in
-    rw arm.before.answer.given.1 (named.put-text.ensures then numbered.put-number.ensures)
+    rw arm.before.answer.given.1 (named.put_text-end.ensures then numbered.put_number.ensures)
 
-same-length-2 : tie.Need-same-length-2
+same-length-2 : tie.Need-shape_of-out-in-Accepted
 same-length-2 c = search rules
 
-returns-2 : tie.Need-returns-2
+returns-2 : tie.Need-returns-in-Accepted
 unfolding answer_text ascii up_to
-returns-2 c = let written = c.before.before in rw written.before.before.before.enum_told.given.1 written.put-text2.ensures
+returns-2 c = let written = c.before.before in rw written.before.before.before.enum_told.given.1 written.put_text.ensures
 
-same-length-3 : tie.Need-same-length-3
+same-length-3 : tie.Need-shape_of-out-in-Marked
 same-length-3 c = search rules
 
-returns-3 : tie.Need-returns-3
+returns-3 : tie.Need-returns-in-Marked
 unfolding answer_text ascii up_to
-returns-3 c = let written = c.before.before in rw written.before.before.before.enum-told2.given.1 written.put-text3.ensures
+returns-3 c = let written = c.before.before in rw written.before.before.before.enum-told2.given.1 written.put_text-in-Marked.ensures
 
-same-length-4 : tie.Need-same-length-4
+same-length-4 : tie.Need-shape_of-out-in-NothingToCancel
 same-length-4 c = search rules
 
-returns-4 : tie.Need-returns-4
+returns-4 : tie.Need-returns-in-NothingToCancel
 unfolding answer_text ascii up_to
-returns-4 c = let written = c.before.before in rw written.before.before.before.enum-told3.given.1 written.put-text4.ensures
+returns-4 c = let written = c.before.before in rw written.before.before.before.enum-told3.given.1 written.put_text-in-NothingToCancel.ensures
 
-same-length-5 : tie.Need-same-length-5
+same-length-5 : tie.Need-shape_of-out-in-Moved
 same-length-5 c = search rules
 
-returns-5 : tie.Need-returns-5
+returns-5 : tie.Need-returns-in-Moved
 unfolding answer_text ascii up_to
-returns-5 c = let written = c.before.before in rw written.before.before.before.enum-told4.given.1 written.put-text5.ensures
+returns-5 c = let written = c.before.before in rw written.before.before.before.enum-told4.given.1 written.put_text-in-Moved.ensures
 
-same-length-6 : tie.Need-same-length-6
+same-length-6 : tie.Need-shape_of-out-in-Idle
 same-length-6 c = search rules
 
-returns-6 : tie.Need-returns-6
+returns-6 : tie.Need-returns-in-Idle
 unfolding answer_text ascii up_to
-returns-6 c = let written = c.before.before in rw written.before.before.before.enum-told5.given.1 written.put-text6.ensures
+returns-6 c = let written = c.before.before in rw written.before.before.before.enum-told5.given.1 written.put_text-in-Idle.ensures
 
-same-length-7 : tie.Need-same-length-7
+same-length-7 : tie.Need-shape_of-out-in-Held
 same-length-7 c = search rules
 
-returns-7 : tie.Need-returns-7
+returns-7 : tie.Need-returns-in-Held
 unfolding answer_text ascii up_to
-returns-7 c = let written = c.before.before in rw written.before.before.before.enum-told6.given.1 written.put-text7.ensures
+returns-7 c = let written = c.before.before in rw written.before.before.before.enum-told6.given.1 written.put_text-in-Held.ensures
 
-same-length-8 : tie.Need-same-length-8
+same-length-8 : tie.Need-shape_of-out-in-Wants
 same-length-8 c = search rules
 
-returns-8 : tie.Need-returns-8
+returns-8 : tie.Need-returns-in-Wants
 unfolding answer_text ascii up_to
-returns-8 c = let written = c.before.before in rw written.before.before.before.enum-told7.given.1 written.put-text8.ensures
+returns-8 c = let written = c.before.before in rw written.before.before.before.enum-told7.given.1 written.put_text-in-Wants.ensures
 
-same-length-9 : tie.Need-same-length-9
+same-length-9 : tie.Need-shape_of-out-in-Asleep
 same-length-9 c = search rules
 
-returns-9 : tie.Need-returns-9
+returns-9 : tie.Need-returns-in-Asleep
 unfolding answer_text ascii up_to
-returns-9 c = let written = c.before.before in rw written.before.before.before.enum-told8.given.1 written.put-text9.ensures
+returns-9 c = let written = c.before.before in rw written.before.before.before.enum-told8.given.1 written.put_text-in-Asleep.ensures
 
-pub put-answer-spec : {M : Type 1} → statement M
-put-answer-spec =
+pub put_answer_spec : {M : Type 1} → statement M
+put_answer_spec =
     tie.close
     (tie.spec
     enum-known-answer

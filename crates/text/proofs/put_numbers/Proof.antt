@@ -6,22 +6,22 @@ use Rattle.text.proofs.Writing.{◌then◌}
 use Rattle.text.proofs.put_numbers.Statement.{statement}
 use Rattle.text.proofs.put_numbers.Tie as tie
 
-put-text-requires : tie.Need-put-text-requires
+put-text-requires : tie.Need-put_text-named-requires
 put-text-requires c κs = search rules
 
-put-number-requires : tie.Need-put-number-requires
+put-number-requires : tie.Need-put_number-first-requires
 put-number-requires c κs = search rules
 
-put-text-requires-2 : tie.Need-put-text-requires-2
+put-text-requires-2 : tie.Need-put_text-again-requires
 put-text-requires-2 c κs = search rules
 
-put-number-requires-2 : tie.Need-put-number-requires-2
+put-number-requires-2 : tie.Need-put_number-second-requires
 put-number-requires-2 c κs = search rules
 
-put-byte-requires : tie.Need-put-byte-requires
+put-byte-requires : tie.Need-put_byte-requires
 put-byte-requires c κs = search rules
 
-same_length : tie.Need-same-length
+same_length : tie.Need-shape_of-out
 same_length c = search rules
 
 returns : tie.Need-returns
@@ -32,10 +32,10 @@ returns c =
     let again = second.before.before.before.before in
     let first = again.before.before.before.before in
     let named = first.before.before.before.before in
-    named.put-text.ensures then first.put-number.ensures then again.put-text2.ensures then second.put-number2.ensures then ended.put_byte.ensures
+    named.put_text-named.ensures then first.put_number-first.ensures then again.put_text-again.ensures then second.put_number-second.ensures then ended.put_byte.ensures
 
-pub put-numbers-spec : {M : Type 1} → statement M
-put-numbers-spec =
+pub put_numbers_spec : {M : Type 1} → statement M
+put_numbers_spec =
     tie.close
     (tie.spec
     put-text-requires

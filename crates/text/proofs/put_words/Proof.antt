@@ -11,53 +11,53 @@ use Rattle.text.proofs.put_words.Statement.{statement}
 use Rattle.text.proofs.put_words.Tie as tie
 
 -- the first i words are written
-abbrev invariant-loop : tie.invariant-loop
+abbrev invariant-loop : tie.invariant-loop-i
 invariant-loop out₀ start words end₀ i₀ out end i = (i ≤ length words) × Written start (spaced (take i words)) out₀ out end
 
 -- how many words are left
-abbrev decreases-loop : tie.decreases-loop
+abbrev decreases-loop : tie.decreases-loop-i
 decreases-loop out₀ start words end₀ i₀ out end i = length words - i
 
-loop-holds : tie.Need-loop-init invariant-loop decreases-loop
+loop-holds : tie.Need-loop-i-init invariant-loop decreases-loop
 loop-holds c = (search rules, rw spaced-none (nothing_written _ _))
 
-put-byte-requires : tie.Need-put-byte-requires invariant-loop decreases-loop
+put-byte-requires : tie.Need-put_byte-spaced-requires invariant-loop decreases-loop
 put-byte-requires c κs = search rules
 
-mul-put-number : tie.Need-overflow-mul-put-number invariant-loop decreases-loop
+mul-put-number : tie.Need-offset_bounds-words-i invariant-loop decreases-loop
 mul-put-number c = search rules
 
-shared-slice-read-put-number : tie.Need-shared-slice-read-put-number invariant-loop decreases-loop
+shared-slice-read-put-number : tie.Need-bounds-words-i invariant-loop decreases-loop
 shared-slice-read-put-number c = search rules
 
-cast-put-number : tie.Need-overflow-cast-put-number invariant-loop decreases-loop
-cast-put-number c = omega (arith, c.shared-slice-known2.given c.before.before.before.before.before.before.before.loop.i)
+cast-put-number : tie.Need-overflow_cast-words invariant-loop decreases-loop
+cast-put-number c = omega (arith, c.shared_slice_known-in-loop-i-1.given c.before.before.before.before.before.before.before.loop-i.i)
 
-put-number-requires : tie.Need-put-number-requires invariant-loop decreases-loop
+put-number-requires : tie.Need-put_number-end-requires invariant-loop decreases-loop
 put-number-requires c κs = search rules
 
-add-i : tie.Need-overflow-add-i invariant-loop decreases-loop
+add-i : tie.Need-overflow_add-i invariant-loop decreases-loop
 add-i c = search rules
 
-loop-less : tie.Need-loop-smaller invariant-loop decreases-loop
+loop-less : tie.Need-loop-i-smaller invariant-loop decreases-loop
 loop-less c = search rules
 
-loop-again : tie.Need-loop-preserved invariant-loop decreases-loop
+loop-again : tie.Need-loop-i-preserved invariant-loop decreases-loop
 loop-again c =
     let written = c.before.before in
     let gap = written.before.before.before.before.before in
     let test = gap.before.before in
     let turn = test.before in
-    (search rules, one-more-word _ _ turn.loop.invariant.1 test.loop-test.true gap.put_byte.ensures written.put-number.ensures)
+    (search rules, one-more-word _ _ turn.loop-i.invariant.1 test.loop-i-test.true gap.put_byte-spaced.ensures written.put_number-end.ensures)
 
-same_length : tie.Need-same-length invariant-loop decreases-loop
-same_length c = written-length c.before.loop.invariant.1
+same_length : tie.Need-shape_of-out invariant-loop decreases-loop
+same_length c = written-length c.before.loop-i.invariant.1
 
 returns : tie.Need-returns invariant-loop decreases-loop
-returns c = (all_words _ _ c.before.loop.invariant.1 c.loop-test.false, spaced-short _ (λ i. omega (arith, c.before.before.shared-slice-known.given i)))
+returns c = (all_words _ _ c.before.loop-i.invariant.1 c.loop-i-test.false, spaced-short _ (λ i. omega (arith, c.before.before.shared_slice_known-1.given i)))
 
-pub put-words-spec : {M : Type 1} → statement M
-put-words-spec =
+pub put_words_spec : {M : Type 1} → statement M
+put_words_spec =
     tie.close
     (tie.spec
     invariant-loop

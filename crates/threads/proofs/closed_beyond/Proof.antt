@@ -11,25 +11,25 @@ abbrev size : tie.Start → ℕ
 size c = c.args.n
 
 -- nobody
-returns : tie.Need-returns
+returns : tie.Need-returns-in-Absent
 unfolding closed_beyond
-returns c = rw c.enum_told.given.1 (sym (none-beyond (size c.before.before)))
+returns c = rw c.in-Absent.is (sym (none-beyond (size c.before)))
 
 -- an open receive is closed on nobody
-returns-2 : tie.Need-returns-2
+returns-2 : tie.Need-returns-in-Open
 unfolding closed_beyond
-returns-2 c = rw c.enum-told2.given.1 (sym (none-beyond (size c.before.before)))
+returns-2 c = rw c.in-Open.is (sym (none-beyond (size c.before)))
 
 -- a partner is the set with one member
-returns-3 : tie.Need-returns-3
+returns-3 : tie.Need-returns-in-Closed
 unfolding closed_beyond
-returns-3 c = rw c.before.before.receive.given.1 (sym (one-beyond (size c.before.before.before.before) _))
+returns-3 c = rw c.before.in-Closed.is (sym (one-beyond (size c.before.before) _))
 
 -- a set
-returns-4 : tie.Need-returns-4
+returns-4 : tie.Need-returns-in-OneOf
 unfolding closed_beyond
-returns-4 c = rw c.before.before.receive2.given.1 c.has-beyond.ensures
+returns-4 c = rw c.before.in-OneOf.is c.has_beyond.ensures
 
-pub closed-beyond-spec : {M : Type 1} → statement M
-closed-beyond-spec =
+pub closed_beyond_spec : {M : Type 1} → statement M
+closed_beyond_spec =
     tie.close (tie.spec (λ c. search rules) (λ c. search rules) (λ c. search rules) (λ c. search rules) (λ c κs. search rules) returns returns-2 returns-3 returns-4)

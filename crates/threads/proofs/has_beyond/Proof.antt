@@ -5,14 +5,14 @@ use Rattle.laws.proofs.Sets.{none-beyond-wide, beyond_shifted}
 use Rattle.threads.proofs.has_beyond.Statement.{statement}
 use Rattle.threads.proofs.has_beyond.Tie as tie
 
-returns : tie.Need-returns
-returns c = let small : c.before.args.set < 2 ^ 32 = search rules in sym (none-beyond-wide c.before.args.set c.before.args.n small c.if1.true)
+returns : tie.Need-returns-then-n-ge-SET_BITS
+returns c = let small : c.before.args.set < 2 ^ 32 = search rules in sym (none-beyond-wide c.before.args.set c.before.args.n small c.if-n-ge-SET_BITS.true)
 
-shr-result : tie.Need-overflow-shr-result
+shr-result : tie.Need-overflow_shr-result
 shr-result c = search rules
 
-returns-2 : tie.Need-returns-2
+returns-2 : tie.Need-returns
 returns-2 c = sym (beyond_shifted c.before.args.set c.before.args.n)
 
-pub has-beyond-spec : {M : Type 1} → statement M
-has-beyond-spec = tie.close (tie.spec returns shr-result returns-2)
+pub has_beyond_spec : {M : Type 1} → statement M
+has_beyond_spec = tie.close (tie.spec returns shr-result returns-2)

@@ -4,8 +4,8 @@ use Rattle.threads.proofs.is_empty.Statement.{statement}
 use Rattle.threads.proofs.is_empty.Tie as tie
 
 -- a set that is named is empty where it is 0
-returns-4 : tie.Need-returns-4
-returns-4 c = rw c.before.receive.given.1 refl
+returns-4 : tie.Need-returns-in-OneOf
+returns-4 c = rw c.in-OneOf.is refl
 
 pub is_empty_spec : {M : Type 1} → statement M
 is_empty_spec =

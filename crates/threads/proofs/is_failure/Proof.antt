@@ -7,5 +7,5 @@ returns : tie.Need-returns
 unfolding is_failure
 returns c = simp (to_z-of_z c.ranges.code)
 
-pub is-failure-spec : {M : Type 1} → statement M
-is-failure-spec = tie.close (tie.spec returns)
+pub is_failure_spec : {M : Type 1} → statement M
+is_failure_spec = tie.close (tie.spec returns)

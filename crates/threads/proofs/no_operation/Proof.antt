@@ -7,5 +7,5 @@ returns : tie.Need-returns
 unfolding no_operation
 returns c = refl
 
-pub no-operation-spec : {M : Type 1} → statement M
-no-operation-spec = tie.close (tie.spec returns)
+pub no_operation_spec : {M : Type 1} → statement M
+no_operation_spec = tie.close (tie.spec returns)

@@ -21,14 +21,14 @@ entry z = z.before.before.before
 
 -- the thread whose queue is joined is known
 abbrev Joins : Type 0
-Joins = tie.After-joined-thread
+Joins = tie.After-joined_thread-j
 
 abbrev zeroed : Joins → Zeroed
 zeroed j = j.before.before.before
 
 -- it has a place in the array
-joined-there : (j : Joins) → j.joined-thread.result < 32
-joined-there j = joined-in_array _ _ _ (entry (zeroed j)).requires _ refl _ j.joined-thread.ensures
+joined-there : (j : Joins) → j.joined_thread-j.result < 32
+joined-there j = joined-in_array _ _ _ (entry (zeroed j)).requires _ refl _ j.joined_thread-j.ensures
 
 -- its queue is joined
 abbrev Joined : Type 0
@@ -38,26 +38,26 @@ abbrev joins : Joined → Joins
 joins q = q.before.before
 
 -- ---- the needs
-element-copy-out-other : tie.Need-element-copy-out-other
+element-copy-out-other : tie.Need-bounds-next-j
 element-copy-out-other j = joined-there j
 
-join-queue-requires : tie.Need-join-queue-requires
+join-queue-requires : tie.Need-join_queue-requires
 unfolding at
 join-queue-requires c κs =
     let j = c.before in
     let s = entry (zeroed j) in
-    joined-room _ _ _ s.pre _ refl _ j.joined-thread.ensures (accepted-shaped _ _ s.pre _ s.good.0)
+    joined-room _ _ _ s.pre _ refl _ j.joined_thread-j.ensures (accepted-shaped _ _ s.pre _ s.good.0)
 
-element-set-from-own : tie.Need-element-set-from-own
+element-set-from-own : tie.Need-bounds-next-j-2
 element-set-from-own q = joined-there (joins q)
 
-element-copy-out-own : tie.Need-element-copy-out-own
+element-copy-out-own : tie.Need-bounds-next-i
 element-copy-out-own q = own-there (entry (zeroed (joins q)))
 
-mul-t15 : tie.Need-overflow-mul-t15
+mul-t15 : tie.Need-offset_bounds-next-i-2
 mul-t15 c = omega (arith, own-there (entry (zeroed (joins c.before.before))))
 
-element-set-from-next : tie.Need-element-set-from-next
+element-set-from-next : tie.Need-bounds-next-i-2
 element-set-from-next c = own-there (entry (zeroed (joins c.before.before)))
 
 returns : tie.Need-returns
@@ -66,10 +66,10 @@ returns c =
     let q = c.before.before in
     let j = joins q in
     let z = zeroed j in
-    begin-leaves _ _ _ (entry z).pre _ z.zero-thread.ensures _ refl _ _ _ q.join-queue.ensures c.begin-own.ensures j.joined-thread.ensures
+    begin-leaves _ _ _ (entry z).pre _ z.zero_thread.ensures _ refl _ _ _ q.join_queue.ensures c.begin_own.ensures j.joined_thread-j.ensures
 
-pub begin-spec : {M : Type 1} → statement M
-begin-spec =
+pub begin_spec : {M : Type 1} → statement M
+begin_spec =
     tie.close
     (tie.spec
     (λ c κs. search begin-words)

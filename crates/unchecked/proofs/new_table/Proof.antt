@@ -5,7 +5,7 @@ use Rattle.unchecked.proofs.new_table.Tie as tie
 
 returns : tie.Need-returns
 unfolding new_table
-returns c = rw (c.before.new-thread.ensures, c.no-rules.ensures)
+returns c = rw (c.before.new_thread-h.ensures, c.no_rules-rules.ensures)
 
-pub new-table-spec : {M : Type 1} → statement M
-new-table-spec = tie.close (tie.spec (λ c κs. search rules) (λ c κs. search rules) returns)
+pub new_table_spec : {M : Type 1} → statement M
+new_table_spec = tie.close (tie.spec (λ c κs. search rules) (λ c κs. search rules) returns)

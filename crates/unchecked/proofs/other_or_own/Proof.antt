@@ -5,13 +5,13 @@ use Rattle.unchecked.specs.Places.{or_own}
 use Rattle.unchecked.proofs.other_or_own.Statement.{statement}
 use Rattle.unchecked.proofs.other_or_own.Tie as tie
 
-returns : tie.Need-returns
+returns : tie.Need-returns-then-o-eq-NOBODY
 unfolding or_own
-returns c = sym (cond-true _ _ _ (eq-eqb _ _ c.if1.true))
+returns c = sym (cond-true _ _ _ (eq-eqb _ _ c.if-o-eq-NOBODY.true))
 
-returns-2 : tie.Need-returns-2
+returns-2 : tie.Need-returns
 unfolding or_own
-returns-2 c = sym (cond-false _ _ _ (ne_eqb _ _ c.if1.false))
+returns-2 c = sym (cond-false _ _ _ (ne_eqb _ _ c.if-o-eq-NOBODY.false))
 
-pub other-or-own-spec : {M : Type 1} → statement M
-other-or-own-spec = tie.close (tie.spec returns returns-2)
+pub other_or_own_spec : {M : Type 1} → statement M
+other_or_own_spec = tie.close (tie.spec returns returns-2)

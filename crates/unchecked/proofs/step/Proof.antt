@@ -22,14 +22,14 @@ own-there s = in_array s.args.x _ s.requires (shaped s)
 
 -- thread x is read
 abbrev Read : Type 0
-Read = tie.After-struct-known
+Read = tie.After-struct_known-1
 
 abbrev entry : Read → tie.Start
 entry r = r.before.before.before
 
 -- both threads of the step are known: x, and the one that is read as the other
 abbrev Both : Type 0
-Both = tie.After-other-or-own
+Both = tie.After-other_or_own-j
 
 abbrev read : Both → Read
 read b = b.before.before.before
@@ -37,20 +37,20 @@ read b = b.before.before.before
 -- thread x's lock is free
 free : (b : Both) → (at (entry (read b)).args.t1 (entry (read b)).args.x).owner ≡ nobody
 unfolding at
-free b = b.before.before.if1.false
+free b = b.before.before.if-own.false
 
 -- the other thread's number is that of the definition
-finds : (b : Both) → b.before.other-number.result ≡ other (at (entry (read b)).args.t1 (entry (read b)).args.x)
+finds : (b : Both) → b.before.other_number-other_number.result ≡ other (at (entry (read b)).args.t1 (entry (read b)).args.x)
 unfolding at
-finds b = b.before.other-number.ensures
+finds b = b.before.other_number-other_number.ensures
 
 -- the thread that is read as the other one has a place in the array
-other-there : (b : Both) → b.other-or-own.result < 32
-other-there b = let s = entry (read b) in other-in-array s.args.x _ s.pre (shaped s) _ _ (finds b) b.other-or-own.ensures
+other-there : (b : Both) → b.other_or_own-j.result < 32
+other-there b = let s = entry (read b) in other-in-array s.args.x _ s.pre (shaped s) _ _ (finds b) b.other_or_own-j.ensures
 
 -- the two threads have stepped
 abbrev Stepped : Type 0
-Stepped = tie.After-step-threads
+Stepped = tie.After-step_threads-change
 
 abbrev both : Stepped → Both
 both d = d.before.before.before
@@ -61,98 +61,98 @@ own-still-there d = own-there (entry (read (both d)))
 
 -- the step ends a part of an operation
 abbrev Ends : Type 0
-Ends = tie.Then2
+Ends = tie.Then-is_ending
 
 abbrev ends-stepped : Ends → Stepped
 ends-stepped e = e.before.before.before.before
 
 -- the step ends nothing
 abbrev GoesOn : Type 0
-GoesOn = tie.Else2
+GoesOn = tie.Else-is_ending
 
 abbrev goes-stepped : GoesOn → Stepped
 goes-stepped g = g.before.before.before.before
 
 -- ---- the needs
-element-copy-out-own : tie.Need-element-copy-out-own
+element-copy-out-own : tie.Need-bounds-table-i
 element-copy-out-own c = own-there c.before
 
 -- the lock is owned: thread x is held
-returns : tie.Need-returns
+returns : tie.Need-returns-then-own
 unfolding at
-returns c = let s = entry c.before in held_stays s.args.x _ s.pre (shaped s) c.if1.true
+returns c = let s = entry c.before in held_stays s.args.x _ s.pre (shaped s) c.if-own.true
 
-other-number-requires : tie.Need-other-number-requires
+other-number-requires : tie.Need-other_number-other_number-requires
 unfolding at
 other-number-requires c κs = let s = entry c.before in queue-fits s.args.x _ s.pre (shaped s)
 
-element-copy-out-other : tie.Need-element-copy-out-other
+element-copy-out-other : tie.Need-bounds-table-j
 element-copy-out-other b = other-there b
 
-part-step-threads-end : tie.Need-slice-bounds-step-threads-end
+part-step-threads-end : tie.Need-slice_bounds-step_threads-end
 part-step-threads-end c =
     let b = c.before in
     let s = entry (read b) in
-    slice-ends s.args.x _ s.pre (shaped s) _ _ (finds b) b.other-or-own.ensures
+    slice-ends s.args.x _ s.pre (shaped s) _ _ (finds b) b.other_or_own-j.ensures
 
-step-threads-requires : tie.Need-step-threads-requires
+step-threads-requires : tie.Need-step_threads-change-requires
 unfolding at
 step-threads-requires c κs =
     let b = c.before.before in
     let s = entry (read b) in (
-      fits-here s.args.x _ s.pre (shaped s) _ _ (finds b) b.other-or-own.ensures,
-      slice-eight s.args.x _ s.pre (shaped s) _ _ (finds b) b.other-or-own.ensures,
+      fits-here s.args.x _ s.pre (shaped s) _ _ (finds b) b.other_or_own-j.ensures,
+      slice-eight s.args.x _ s.pre (shaped s) _ _ (finds b) b.other_or_own-j.ensures,
     )
 
-end-threads-requires : tie.Need-end-threads-requires
+end-threads-requires : tie.Need-end_threads-both-requires
 unfolding at
 end-threads-requires c κs =
     let d = ends-stepped c in
     let b = both d in
     let s = entry (read b) in
-    ending-waits s.args.x _ s.pre (shaped s) _ _ (finds b) b.other-or-own.ensures (free b) d.step-threads.result d.step-threads.ensures.0
+    ending-waits s.args.x _ s.pre (shaped s) _ _ (finds b) b.other_or_own-j.ensures (free b) d.step_threads-change.result d.step_threads-change.ensures.0
 
-element-set-from-theirs : tie.Need-element-set-from-theirs
+element-set-from-theirs : tie.Need-bounds-next-j
 element-set-from-theirs c = other-there (both (ends-stepped c.before.before.before))
 
-mul-mine : tie.Need-overflow-mul-mine
+mul-mine : tie.Need-offset_bounds-next-i
 mul-mine c = omega (arith, own-still-there (ends-stepped c.before.before.before))
 
-element-set-from-mine : tie.Need-element-set-from-mine
+element-set-from-mine : tie.Need-bounds-next-i
 element-set-from-mine c = own-still-there (ends-stepped c.before.before.before)
 
 -- the two threads as the ending leaves them are put back
-returns-2 : tie.Need-returns-2
+returns-2 : tie.Need-returns-then-is_ending
 unfolding at put
 returns-2 c =
     let e = c.before.before.before in
     let d = ends-stepped e in
     let b = both d in
     let s = entry (read b) in
-    stepped-to-end s.args.x _ s.pre (shaped s) _ _ (finds b) b.other-or-own.ensures (free b)
-    d.step-threads.result d.step-threads.ensures.0 _ d.step-threads.ensures.1 _ _
-    (sym e.if2.true ∙ e.before.is-ending.ensures) c.before.before.end-threads.ensures
+    stepped-to-end s.args.x _ s.pre (shaped s) _ _ (finds b) b.other_or_own-j.ensures (free b)
+    d.step_threads-change.result d.step_threads-change.ensures.0 _ d.step_threads-change.ensures.1 _ _
+    (sym e.if-is_ending.true ∙ e.before.is_ending.ensures) c.before.before.end_threads-both.ensures
 
-element-set-from-next : tie.Need-element-set-from-next
+element-set-from-next : tie.Need-bounds-next-j-2
 element-set-from-next c = other-there (both (goes-stepped c.before))
 
-mul-t30 : tie.Need-overflow-mul-t30
+mul-t30 : tie.Need-offset_bounds-next-i-2
 mul-t30 c = omega (arith, own-still-there (goes-stepped c.before.before))
 
-element-set-from-next-2 : tie.Need-element-set-from-next-2
+element-set-from-next-2 : tie.Need-bounds-next-i-2
 element-set-from-next-2 c = own-still-there (goes-stepped c.before.before)
 
 -- the two threads with the fields that are set are put back
-returns-3 : tie.Need-returns-3
+returns-3 : tie.Need-returns
 unfolding at put
 returns-3 c =
     let g = c.before.before in
     let d = goes-stepped g in
     let b = both d in
     let s = entry (read b) in
-    stepped_on s.args.x _ s.pre (shaped s) _ _ (finds b) b.other-or-own.ensures (free b)
-    d.step-threads.result d.step-threads.ensures.0 _ d.step-threads.ensures.1 _ _
-    (sym g.if2.false ∙ g.before.is-ending.ensures) c.change-own.ensures c.before.change-other.ensures
+    stepped_on s.args.x _ s.pre (shaped s) _ _ (finds b) b.other_or_own-j.ensures (free b)
+    d.step_threads-change.result d.step_threads-change.ensures.0 _ d.step_threads-change.ensures.1 _ _
+    (sym g.if-is_ending.false ∙ g.before.is_ending.ensures) c.change_own.ensures c.before.change_other.ensures
 
 pub step_spec : {M : Type 1} → statement M
 step_spec =

@@ -8,49 +8,49 @@ use Rattle.unchecked.proofs.tick.Statement.{statement}
 use Rattle.unchecked.proofs.tick.Tie as tie
 
 -- the first i threads are ticked
-abbrev invariant-loop : tie.invariant-loop
+abbrev invariant-loop : tie.invariant-loop-i
 invariant-loop n next₀ i₀ next i = (i ≤ n) × (n ≤ 32) × (next ≡ edit_below i ticked next₀)
 
 -- how many threads are left
-abbrev decreases-loop : tie.decreases-loop
+abbrev decreases-loop : tie.decreases-loop-i
 decreases-loop n next₀ i₀ next i = n - i
 
-cast-n : tie.Need-overflow-cast-n invariant-loop decreases-loop
+cast-n : tie.Need-overflow_cast-n invariant-loop decreases-loop
 cast-n c = search rules
 
-loop-holds : tie.Need-loop-init invariant-loop decreases-loop
+loop-holds : tie.Need-loop-i-init invariant-loop decreases-loop
 loop-holds c = (search rules, accepted-few _ _ c.before.requires, none-ticked _)
 
-mul-h : tie.Need-overflow-mul-h invariant-loop decreases-loop
+mul-h : tie.Need-offset_bounds-next-i invariant-loop decreases-loop
 mul-h c = search rules
 
-element-copy-out-h : tie.Need-element-copy-out-h invariant-loop decreases-loop
+element-copy-out-h : tie.Need-bounds-next-i invariant-loop decreases-loop
 element-copy-out-h c = search rules
 
-tick-thread-requires : tie.Need-tick-thread-requires invariant-loop decreases-loop
+tick-thread-requires : tie.Need-tick_thread-requires invariant-loop decreases-loop
 tick-thread-requires c κs = search rules
 
-mul-t7 : tie.Need-overflow-mul-t7 invariant-loop decreases-loop
+mul-t7 : tie.Need-offset_bounds-next-i-in-loop-i invariant-loop decreases-loop
 mul-t7 c = search rules
 
-element-set-from-next : tie.Need-element-set-from-next invariant-loop decreases-loop
+element-set-from-next : tie.Need-bounds-next-i-in-loop-i invariant-loop decreases-loop
 element-set-from-next c = search rules
 
-add-i : tie.Need-overflow-add-i invariant-loop decreases-loop
+add-i : tie.Need-overflow_add-i invariant-loop decreases-loop
 add-i c = search rules
 
-loop-less : tie.Need-loop-smaller invariant-loop decreases-loop
+loop-less : tie.Need-loop-i-smaller invariant-loop decreases-loop
 loop-less c = search rules
 
-loop-again : tie.Need-loop-preserved invariant-loop decreases-loop
+loop-again : tie.Need-loop-i-preserved invariant-loop decreases-loop
 unfolding at put
-loop-again c = (search rules, search rules, one-more-ticked _ _ _ _ c.before.before.before.loop.invariant.2 c.tick-thread.ensures)
+loop-again c = (search rules, search rules, one-more-ticked _ _ _ _ c.before.before.before.loop-i.invariant.2 c.tick_thread.ensures)
 
 returns : tie.Need-returns invariant-loop decreases-loop
-returns c = tick-performed _ c.before.before.before.requires _ (all-ticked _ _ _ c.before.loop.invariant.2 (omega arith))
+returns c = tick-performed _ c.before.before.before.requires _ (all-ticked _ _ _ c.before.loop-i.invariant.2 (omega arith))
 
-pub tick-spec : {M : Type 1} → statement M
-tick-spec =
+pub tick_spec : {M : Type 1} → statement M
+tick_spec =
     tie.close
     (tie.spec
     invariant-loop

@@ -11,36 +11,36 @@ use Rattle.wellformed.proofs.links_fit.Statement.{statement}
 use Rattle.wellformed.proofs.links_fit.Tie as tie
 
 -- what was gathered of the first r threads fits
-abbrev invariant-loop : tie.invariant-loop
+abbrev invariant-loop : tie.invariant-loop-r
 invariant-loop n waits targets owners held r₀ r = (r ≤ n) × (all_below r (link_fits n (number_at waits) (number_at targets) (number_at owners) (number_at held)) ≡ true)
 
 -- the threads that are left
-abbrev decreases-loop : tie.decreases-loop
+abbrev decreases-loop : tie.decreases-loop-r
 decreases-loop n waits targets owners held r₀ r = n - r
 
-loop-holds : tie.Need-loop-init invariant-loop decreases-loop
+loop-holds : tie.Need-loop-r-init invariant-loop decreases-loop
 unfolding all_below
 loop-holds c = (search rules, refl)
 
-link-fits-requires : tie.Need-link-fits-requires invariant-loop decreases-loop
+link-fits-requires : tie.Need-link_fits-requires invariant-loop decreases-loop
 link-fits-requires c κs = search rules
 
-returns : tie.Need-returns invariant-loop decreases-loop
-returns c = all-below-fails _ _ _ (search rules) (sym c.before.link_fits.ensures ∙ not-true c.before.link_fits.result c.if1.true)
+returns : tie.Need-returns-then-not-link_fits invariant-loop decreases-loop
+returns c = all-below-fails _ _ _ (search rules) (sym c.before.link_fits.ensures ∙ not-true c.before.link_fits.result c.if-not-link_fits.true)
 
-add_r : tie.Need-overflow-add-r invariant-loop decreases-loop
+add_r : tie.Need-overflow_add-r invariant-loop decreases-loop
 add_r c = search rules
 
-loop-less : tie.Need-loop-smaller invariant-loop decreases-loop
+loop-less : tie.Need-loop-r-smaller invariant-loop decreases-loop
 loop-less c = search rules
 
-loop-again : tie.Need-loop-preserved invariant-loop decreases-loop
-loop-again c = (search rules, all-below-more _ _ c.before.before.before.loop.invariant.1 (sym c.before.link_fits.ensures ∙ not-false c.before.link_fits.result c.if1.false))
+loop-again : tie.Need-loop-r-preserved invariant-loop decreases-loop
+loop-again c = (search rules, all-below-more _ _ c.before.before.before.loop-r.invariant.1 (sym c.before.link_fits.ensures ∙ not-false c.before.link_fits.result c.if-not-link_fits.false))
 
-returns-2 : tie.Need-returns-2 invariant-loop decreases-loop
-returns-2 c = all-below-end _ _ _ c.before.loop.invariant.1 (omega arith)
+returns-2 : tie.Need-returns invariant-loop decreases-loop
+returns-2 c = all-below-end _ _ _ c.before.loop-r.invariant.1 (omega arith)
 
-pub links-fit-spec : {M : Type 1} → statement M
-links-fit-spec =
+pub links_fit_spec : {M : Type 1} → statement M
+links_fit_spec =
     tie.close
     (tie.spec invariant-loop decreases-loop loop-holds link-fits-requires returns add_r loop-less loop-again returns-2)

@@ -5,31 +5,31 @@ use Rattle.words.proofs.Laws.{first-there}
 use Rattle.words.proofs.first_words.Statement.{statement}
 use Rattle.words.proofs.first_words.Tie as tie
 
-mul-lesser : tie.Need-overflow-mul-lesser
+mul-lesser : tie.Need-overflow_mul-x
 mul-lesser c = search rules
 
-lesser-requires : tie.Need-lesser-requires
+lesser-requires : tie.Need-lesser-start-requires
 lesser-requires c κs = search rules
 
-lesser-requires-2 : tie.Need-lesser-requires-2
+lesser-requires-2 : tie.Need-lesser-most-requires
 lesser-requires-2 c κs = search rules
 
-add-lesser : tie.Need-overflow-add-lesser
+add-lesser : tie.Need-overflow_add-start
 add-lesser c = search rules
 
-lesser-requires-3 : tie.Need-lesser-requires-3
+lesser-requires-3 : tie.Need-lesser-end-requires
 lesser-requires-3 c κs = search rules
 
-mul-result : tie.Need-overflow-mul-result
+mul-result : tie.Need-offset_bounds-store-start
 mul-result c = search rules
 
-sub-result : tie.Need-overflow-sub-result
+sub-result : tie.Need-slice_bounds-result-count
 sub-result c = search rules
 
-part-result-start : tie.Need-slice-bounds-result-start
+part-result-start : tie.Need-slice_bounds-result-start
 part-result-start c = search rules
 
-part-result-end : tie.Need-slice-bounds-result-end
+part-result-end : tie.Need-slice_bounds-result-end
 part-result-end c = search rules
 
 -- the words by the three numbers, and the place by the first
@@ -38,12 +38,12 @@ returns c =
     let third = c.before in
     let second = third.before in
     let first = second.before in
-    let start = first.lesser.ensures in
-    let words = first-there _ _ first.before.before.args.count start second.lesser2.ensures third.lesser3.ensures in
+    let start = first.lesser-start.ensures in
+    let words = first-there _ _ first.before.before.args.count start second.lesser-most.ensures third.lesser-end.ensures in
     (words, (refl, rw start (omega arith)))
 
-pub first-words-spec : {M : Type 1} → statement M
-first-words-spec =
+pub first_words_spec : {M : Type 1} → statement M
+first_words_spec =
     tie.close
     (tie.spec
     mul-lesser

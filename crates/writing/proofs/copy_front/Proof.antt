@@ -10,39 +10,39 @@ use Rattle.writing.proofs.copy_front.Statement.{statement}
 use Rattle.writing.proofs.copy_front.Tie as tie
 
 -- the first i bytes are copied, the others as they were
-abbrev invariant-loop : tie.invariant-loop
+abbrev invariant-loop : tie.invariant-loop-i
 invariant-loop from to₀ i₀ to i = (i ≤ length from) × (length to ≡ length to₀) × (to ≡ take i from ++ drop i to₀)
 
 -- how many bytes are left
-abbrev decreases-loop : tie.decreases-loop
+abbrev decreases-loop : tie.decreases-loop-i
 decreases-loop from to₀ i₀ to i = length from - i
 
-loop-holds : tie.Need-loop-init invariant-loop decreases-loop
+loop-holds : tie.Need-loop-i-init invariant-loop decreases-loop
 loop-holds c = (search rules, refl, refl)
 
-shared-slice-read-to : tie.Need-shared-slice-read-to invariant-loop decreases-loop
+shared-slice-read-to : tie.Need-bounds-from-i invariant-loop decreases-loop
 shared-slice-read-to c = search rules
 
-slice-write-to : tie.Need-slice-write-to invariant-loop decreases-loop
+slice-write-to : tie.Need-bounds-to-i invariant-loop decreases-loop
 slice-write-to c = search rules
 
-add-i : tie.Need-overflow-add-i invariant-loop decreases-loop
+add-i : tie.Need-overflow_add-i invariant-loop decreases-loop
 add-i c = search rules
 
-loop-less : tie.Need-loop-smaller invariant-loop decreases-loop
+loop-less : tie.Need-loop-i-smaller invariant-loop decreases-loop
 loop-less c = search rules
 
-loop-again : tie.Need-loop-preserved invariant-loop decreases-loop
-loop-again c = (search rules, search rules, rw c.before.before.loop.invariant.2 (copied_more _ _ _ c.before.loop-test.true (omega arith)))
+loop-again : tie.Need-loop-i-preserved invariant-loop decreases-loop
+loop-again c = (search rules, search rules, rw c.before.before.loop-i.invariant.2 (copied_more _ _ _ c.before.loop-i-test.true (omega arith)))
 
-same_length : tie.Need-same-length invariant-loop decreases-loop
+same_length : tie.Need-shape_of-to invariant-loop decreases-loop
 same_length c = search rules
 
 returns : tie.Need-returns invariant-loop decreases-loop
-returns c = let all : c.before.loop.i ≡ length c.before.before.args.from.now = omega arith in rw (c.before.loop.invariant.2, all, take-length)
+returns c = let all : c.before.loop-i.i ≡ length c.before.before.args.from.now = omega arith in rw (c.before.loop-i.invariant.2, all, take-length)
 
-pub copy-front-spec : {M : Type 1} → statement M
-copy-front-spec =
+pub copy_front_spec : {M : Type 1} → statement M
+copy_front_spec =
     tie.close
     (tie.spec
     invariant-loop

@@ -10,20 +10,20 @@ use Rattle.writing.proofs.fits_kind.Statement.{statement}
 use Rattle.writing.proofs.fits_kind.Tie as tie
 
 -- a begin
-returns : tie.Need-returns
+returns : tie.Need-returns-then-is_begin
 unfolding fits_kind
-returns c = let t = c.before in rw (sym t.before.is-begin.ensures ∙ t.if1.true, c.names-set.ensures)
+returns c = let t = c.before in rw (sym t.before.is_begin.ensures ∙ t.if-is_begin.true, c.names_set.ensures)
 
 -- any other record
-returns-2 : tie.Need-returns-2
+returns-2 : tie.Need-returns
 unfolding fits_kind
 returns-2 c =
     let o = c.before.before in
     let bytes = o.before.before.before.args.bytes.now in
-    rw (sym o.before.is-begin.ensures ∙ o.if1.false) (c.all-zero.ensures ∙ ap all_zero (take_all (length bytes - 4) (drop 4 bytes) (omega (arith, length-drop 4 bytes))))
+    rw (sym o.before.is_begin.ensures ∙ o.if-is_begin.false) (c.all_zero.ensures ∙ ap all_zero (take_all (length bytes - 4) (drop 4 bytes) (omega (arith, length-drop 4 bytes))))
 
-pub fits-kind-spec : {M : Type 1} → statement M
-fits-kind-spec =
+pub fits_kind_spec : {M : Type 1} → statement M
+fits_kind_spec =
     tie.close
     (tie.spec
     (λ c κs. search rules)

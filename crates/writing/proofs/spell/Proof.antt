@@ -14,8 +14,8 @@ use Rattle.writing.proofs.spell.Statement.{statement}
 use Rattle.writing.proofs.spell.Tie as tie
 
 -- the bytes up to the set, by the results of what was called for three of them
-fields-spelled : (r : Record) (parts partner time : ℕ) → parts ≡ parts_of r.op → partner ≡ partner_of r.op.receive → time ≡ receive_time r.op.receive
-    → 0x4C ∷ 0x34 ∷ r.kind ∷ r.thread ∷ parts ∷ r.op.send.target ∷ partner ∷ r.op.send.count ∷ r.op.send.time ∷ time ∷ bytes_of r.op.send.words ++ replicate 4 0 ≡ up_to_set r ++ replicate 4 0
+fields-spelled : (r : Record) (parts partner time : ℕ) → parts ≡ parts_of r.op → partner ≡ partner_of r.op-1.receive → time ≡ receive_time r.op-1.receive
+    → 0x4C ∷ 0x34 ∷ r.kind ∷ r.thread ∷ parts ∷ r.op-1.send-1.target ∷ partner ∷ r.op-1.send-1.count ∷ r.op-1.send-1.time ∷ time ∷ bytes_of r.op-1.send-1.words ++ replicate 4 0 ≡ up_to_set r ++ replicate 4 0
 fields-spelled r parts partner time e f g = rw (e, f, g) refl
 
 -- ---- the places of the code from which the need below speaks; each leads back to the one before
@@ -44,11 +44,11 @@ returns c =
     let w : Words = c.before.before.before.before in
     let f : Fields = fields w in
     c.before.put_word.ensures
-    ∙ set-put (up_to_set (entry f).args.item) _ _ (set-place (entry f)) (w.put-words.ensures ∙ fields-spelled (entry f).args.item _ _ _ f.before.before.parts-of.ensures f.before.partner-of.ensures f.receive-time.ensures)
-    ∙ ap (λ (set : ℕ). up_to_set (entry f).args.item ++ word_bytes set) f.before.before.before.set-of.ensures
+    ∙ set-put (up_to_set (entry f).args.item) _ _ (set-place (entry f)) (w.put_words.ensures ∙ fields-spelled (entry f).args.item _ _ _ f.before.before.parts_of.ensures f.before.partner_of.ensures f.receive_time.ensures)
+    ∙ ap (λ (set : ℕ). up_to_set (entry f).args.item ++ word_bytes set) f.before.before.before.set_of-set.ensures
 
-pub spell-spec : {M : Type 1} → statement M
-spell-spec =
+pub spell_spec : {M : Type 1} → statement M
+spell_spec =
     tie.close
     (tie.spec
     (λ c κs. search rules)

@@ -16,13 +16,13 @@ use Rattle.writing.proofs.write.Tie as tie
 -- ---- the places of the code from which the needs below speak; each leads back to the one before
 -- the record is spelled as if it were a begin with a set
 abbrev Spelled : Type 0
-Spelled = tie.After-spell
+Spelled = tie.After-spell-space
 
 abbrev entry : Spelled → tie.Start
 entry s = s.before.before
 
 -- so it has the 46 bytes of one
-whole : (s : Spelled) → length s.spell.result ≡ 46
+whole : (s : Spelled) → length s.spell-space.result ≡ 46
 whole s = search rules
 
 -- it is tested whether its operation is one of its kind
@@ -40,69 +40,69 @@ abbrev kind-tested : LawfulTested → KindTested
 kind-tested l = l.before.before.before
 
 -- its operation is one of its kind
-fitting : (l : LawfulTested) → let s = spelled (kind-tested l) in fits_kind (entry s).args.item.kind (entry s).args.item.op.receive s.spell.result ≡ true
-fitting l = let k = kind-tested l in sym k.fits-kind.ensures ∙ not-false k.fits-kind.result l.before.before.if1.false
+fitting : (l : LawfulTested) → let s = spelled (kind-tested l) in fits_kind (entry s).args.item.kind (entry s).args.item.op-1.receive s.spell-space.result ≡ true
+fitting l = let k = kind-tested l in sym k.fits_kind.ensures ∙ not-false k.fits_kind.result l.before.before.if-not-fits_kind.false
 
 -- they are, and the record's length is known
 abbrev Measured : Type 0
-Measured = tie.After-record-length
+Measured = tie.After-record_length-n
 
 abbrev lawful-tested : Measured → LawfulTested
 lawful-tested m = m.before.before
 
 -- its bytes are lawful
-lawfully : (m : Measured) → let s = spelled (kind-tested (lawful-tested m)) in lawful (entry s).args.first (front s.spell.result) ≡ true
-lawfully m = let l = lawful-tested m in sym l.is_lawful.ensures ∙ not-false l.is_lawful.result m.before.if2.false
+lawfully : (m : Measured) → let s = spelled (kind-tested (lawful-tested m)) in lawful (entry s).args.first (front s.spell-space.result) ≡ true
+lawfully m = let l = lawful-tested m in sym l.is_lawful.ensures ∙ not-false l.is_lawful.result m.before.if-not-is_lawful.false
 
 -- the length is that of the record's kind
-long : (m : Measured) → m.record-length.result ≡ record_length (entry (spelled (kind-tested (lawful-tested m)))).args.item.kind
-long m = m.record-length.ensures
+long : (m : Measured) → m.record_length-n.result ≡ record_length (entry (spelled (kind-tested (lawful-tested m)))).args.item.kind
+long m = m.record_length-n.ensures
 
 -- the record is not longer than what is spelled
-within : (m : Measured) → m.record-length.result ≤ length (spelled (kind-tested (lawful-tested m))).spell.result
-within m = let s = spelled (kind-tested (lawful-tested m)) in omega (arith, long m, record_fits _ _ s.spell.ensures (whole s))
+within : (m : Measured) → m.record_length-n.result ≤ length (spelled (kind-tested (lawful-tested m))).spell-space.result
+within m = let s = spelled (kind-tested (lawful-tested m)) in omega (arith, long m, record_fits _ _ s.spell-space.ensures (whole s))
 
 -- ---- the needs
 -- refused: its operation is not one of its kind
-returns : tie.Need-returns
+returns : tie.Need-returns-then-not-fits_kind
 returns c =
     let k = c.before in
     let s = spelled k in
-    not_fitting _ _ s.spell.ensures (whole s) _ _ (sym k.fits-kind.ensures ∙ not-true k.fits-kind.result c.if1.true)
+    not_fitting _ _ s.spell-space.ensures (whole s) _ _ (sym k.fits_kind.ensures ∙ not-true k.fits_kind.result c.if-not-fits_kind.true)
 
 -- refused: its bytes are not lawful
-returns-2 : tie.Need-returns-2
+returns-2 : tie.Need-returns-then-not-is_lawful
 returns-2 c =
     let l = c.before in
     let s = spelled (kind-tested l) in
-    not-lawful _ _ s.spell.ensures (whole s) _ _ (fitting l) (sym l.is_lawful.ensures ∙ not-true l.is_lawful.result c.if2.true)
+    not-lawful _ _ s.spell-space.ensures (whole s) _ _ (fitting l) (sym l.is_lawful.ensures ∙ not-true l.is_lawful.result c.if-not-is_lawful.true)
 
 -- refused: there are too few bytes for the record
-returns-3 : tie.Need-returns-3
+returns-3 : tie.Need-returns-then-bytes-n
 returns-3 c =
     let m = c.before in
     let l = lawful-tested m in
     let s = spelled (kind-tested l) in
-    too_long _ _ s.spell.ensures (whole s) _ _ (fitting l) _ (long m) c.if3.true
+    too_long _ _ s.spell-space.ensures (whole s) _ _ (fitting l) _ (long m) c.if-bytes-n.true
 
-array-share-prefix-space : tie.Need-array-share-prefix-space
+array-share-prefix-space : tie.Need-slice_bounds-space-end
 array-share-prefix-space c = within c.before
 
-slice-aggregate-copy-front : tie.Need-slice-aggregate-copy-front
+slice-aggregate-copy-front : tie.Need-slice_bounds-copy_front-end
 slice-aggregate-copy-front c = sym (length-take-le _ _ (within c.before.before))
 
-copy-front-requires : tie.Need-copy-front-requires
-copy-front-requires c κs = rw (length-take-le _ _ (within c.before.before.before)) c.before.before.if3.false
+copy-front-requires : tie.Need-copy_front-requires
+copy-front-requires c κs = rw (length-take-le _ _ (within c.before.before.before)) c.before.before.if-bytes-n.false
 
 -- the record is written
-returns-4 : tie.Need-returns-4
+returns-4 : tie.Need-returns
 returns-4 c =
     let copied = c.before.before in
     let fits = copied.before.before.before in
     let m = fits.before in
     let l = lawful-tested m in
     let s = spelled (kind-tested l) in
-    well_written _ _ s.spell.ensures (whole s) _ _ (fitting l) _ (long m) (lawfully m) fits.if3.false _ copied.copy-front.ensures
+    well_written _ _ s.spell-space.ensures (whole s) _ _ (fitting l) _ (long m) (lawfully m) fits.if-bytes-n.false _ copied.copy_front.ensures
 
 pub write_spec : {M : Type 1} → statement M
 write_spec =

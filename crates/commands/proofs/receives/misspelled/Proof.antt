@@ -4,7 +4,7 @@ use Rattle.commands.proofs.receives.misspelled.Tie as tie
 
 -- no operation
 returns : tie.Need-returns
-returns c = rw c.no-operation.ensures
+returns c = rw c.no_operation-op.ensures
 
-pub misspelled-spec : {M : Type 1} → statement M
-misspelled-spec = tie.close (tie.spec (λ c κs. search rules) returns)
+pub misspelled_spec : {M : Type 1} → statement M
+misspelled_spec = tie.close (tie.spec (λ c κs. search rules) returns)

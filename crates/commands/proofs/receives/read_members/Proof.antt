@@ -11,11 +11,11 @@ use Rattle.commands.proofs.receives.read_members.Statement.{statement}
 use Rattle.commands.proofs.receives.read_members.Tie as tie
 
 -- the partners before a place are put into the set
-abbrev invariant-loop : tie.invariant-loop
+abbrev invariant-loop : tie.invariant-loop-front
 invariant-loop line first end send front set₀ start₀ set start = Members line first end set start
 
 -- how many bytes are left
-abbrev decreases-loop : tie.decreases-loop
+abbrev decreases-loop : tie.decreases-loop-front
 decreases-loop line first end send front set₀ start₀ set start = end - start
 
 -- at the entry: the line goes as far as the word
@@ -23,78 +23,78 @@ long : (c : tie.Start invariant-loop decreases-loop) → length (take c.args.end
 long c = length-take-le c.args.end c.args.line.now c.requires.within
 
 -- at the end of a piece: the way back to the entry
-abbrev entry : tie.After-piece-end invariant-loop decreases-loop → tie.Start invariant-loop decreases-loop
+abbrev entry : tie.After-piece_end-stop invariant-loop decreases-loop → tie.Start invariant-loop decreases-loop
 entry c = c.before.before.before.before
 
 -- once a piece is known to be a thread: the way back to its number, and to its end
-abbrev number : tie.Else1 invariant-loop decreases-loop → tie.After-amount-of invariant-loop decreases-loop
+abbrev number : tie.Else-amount-ne0 invariant-loop decreases-loop → tie.After-amount_of-amount invariant-loop decreases-loop
 number c = c.before.before
 
-abbrev piece : tie.Else1 invariant-loop decreases-loop → tie.After-piece-end invariant-loop decreases-loop
+abbrev piece : tie.Else-amount-ne0 invariant-loop decreases-loop → tie.After-piece_end-stop invariant-loop decreases-loop
 piece c = (number c).before.before
 
 -- once it is in the set: the way back to where it was known
-abbrev thread : tie.After-with-member invariant-loop decreases-loop → tie.Else1 invariant-loop decreases-loop
+abbrev thread : tie.After-with_member-set invariant-loop decreases-loop → tie.Else-amount-ne0 invariant-loop decreases-loop
 thread c = c.before.before
 
 -- the front ends where the word does
-slice-aggregate-front : tie.Need-slice-aggregate-front invariant-loop decreases-loop
+slice-aggregate-front : tie.Need-slice_bounds-front-end invariant-loop decreases-loop
 slice-aggregate-front c = sym (long c.before.before)
 
 -- no partner so far
-loop-holds : tie.Need-loop-init invariant-loop decreases-loop
+loop-holds : tie.Need-loop-front-init invariant-loop decreases-loop
 loop-holds c = members-start _ _ _ c.before.before.requires.ordered
 
 -- a piece starts within the word
-piece-end-requires : tie.Need-piece-end-requires invariant-loop decreases-loop
-piece-end-requires c κs = omega (arith, c.loop.invariant.within, long c.before.before.before)
+piece-end-requires : tie.Need-piece_end-stop-requires invariant-loop decreases-loop
+piece-end-requires c κs = omega (arith, c.loop-front.invariant.within, long c.before.before.before)
 
 -- the next is no thread
-returns : tie.Need-returns invariant-loop decreases-loop
+returns : tie.Need-returns-then-amount-ne0 invariant-loop decreases-loop
 returns c =
     let at-number = c.before.before.before in
     let at_piece = at-number.before.before in
     rw c.misspelled.ensures
-    (members-wrong _ _ _ (entry at_piece).requires.within at_piece.before.loop.invariant _ at_piece.piece-end.ensures _ at-number.amount-of.ensures _ c.before.if1.true)
+    (members-wrong _ _ _ (entry at_piece).requires.within at_piece.before.loop-front.invariant _ at_piece.piece_end-stop.ensures _ at-number.amount_of-amount.ensures _ c.before.if-amount-ne0.true)
 
 -- it is one, below 32
-with-member-requires : tie.Need-with-member-requires invariant-loop decreases-loop
-with-member-requires c κs = omega (arith, c.low_byte.ensures, thread-small _ _ (number c.before).amount-of.ensures c.before.if1.false)
+with-member-requires : tie.Need-with_member-set-requires invariant-loop decreases-loop
+with-member-requires c κs = omega (arith, c.low_byte.ensures, thread-small _ _ (number c.before).amount_of-amount.ensures c.before.if-amount-ne0.false)
 
 -- what stands behind the word is within the line
-read-one-of-requires : tie.Need-read-one-of-requires invariant-loop decreases-loop
+read-one-of-requires : tie.Need-read_one_of-requires invariant-loop decreases-loop
 read-one-of-requires c κs = (entry (piece (thread c.before))).pre.within
 
 -- it is the last
-returns-2 : tie.Need-returns-2 invariant-loop decreases-loop
+returns-2 : tie.Need-returns-then-stop-end invariant-loop decreases-loop
 returns-2 c =
     let added = c.before.before in
     let known = thread added in
     let at_piece = piece known in
-    let last = members-last _ _ _ (entry at_piece).pre.within at_piece.before.loop.inv _ at_piece.piece-end.ensures _ (number known).amount-of.ensures known.if1.left _ _ added.before.low_byte.ensures added.with-member.ensures c.before.if2.true in
-    spells_as (ap (read_one_of (entry at_piece).args.send) last) c.read-one-of.ensures
+    let last = members-last _ _ _ (entry at_piece).pre.within at_piece.before.loop-front.inv _ at_piece.piece_end-stop.ensures _ (number known).amount_of-amount.ensures known.if-amount-ne0.left _ _ added.before.low_byte.ensures added.with_member-set.ensures c.before.if-stop-end.true in
+    spells_as (ap (read_one_of (entry at_piece).args.send) last) c.read_one_of.ensures
 
 -- more follow: the piece ends before the word does
-before-end : (c : tie.Else2 invariant-loop decreases-loop) → (piece (thread c.before)).piece-end.result < (entry (piece (thread c.before))).args.end
-before-end c = let at_piece = piece (thread c.before) in omega (arith, c.if2.false, at_piece.piece-end.ensures.passing.within, long (entry at_piece))
+before-end : (c : tie.Else-stop-end invariant-loop decreases-loop) → (piece (thread c.before)).piece_end-stop.result < (entry (piece (thread c.before))).args.end
+before-end c = let at_piece = piece (thread c.before) in omega (arith, c.if-stop-end.false, at_piece.piece_end-stop.ensures.passing.within, long (entry at_piece))
 
 -- so there is a place behind it
-add_start : tie.Need-overflow-add-start invariant-loop decreases-loop
+add_start : tie.Need-overflow_add-start invariant-loop decreases-loop
 add_start c =
     let small : (entry (piece (thread c.before))).args.end < 2 ^ 64 = search rules in
     record { fits = omega (arith, before-end c) }
 
 -- and fewer bytes are left
-loop-less : tie.Need-loop-smaller invariant-loop decreases-loop
-loop-less c = omega (arith, before-end c, (piece (thread c.before)).piece-end.ensures.passing.after)
+loop-less : tie.Need-loop-front-smaller invariant-loop decreases-loop
+loop-less c = omega (arith, before-end c, (piece (thread c.before)).piece_end-stop.ensures.passing.after)
 
 -- it is in the set with those before it
-loop-again : tie.Need-loop-preserved invariant-loop decreases-loop
+loop-again : tie.Need-loop-front-preserved invariant-loop decreases-loop
 loop-again c =
     let added = c.before in
     let known = thread added in
     let at_piece = piece known in
-    members-more _ _ _ (entry at_piece).pre.within at_piece.before.loop.inv _ at_piece.piece-end.ensures _ (number known).amount-of.ensures known.if1.left _ _ added.before.low_byte.ensures added.with-member.ensures c.if2.false
+    members-more _ _ _ (entry at_piece).pre.within at_piece.before.loop-front.inv _ at_piece.piece_end-stop.ensures _ (number known).amount_of-amount.ensures known.if-amount-ne0.left _ _ added.before.low_byte.ensures added.with_member-set.ensures c.if-stop-end.false
 
-pub read-members-spec : {M : Type 1} → statement M
-read-members-spec = tie.close (tie.spec invariant-loop decreases-loop slice-aggregate-front loop-holds piece-end-requires (λ c. search rules) (λ c. search rules) (λ c. search rules) (λ c κs. search rules) (λ c κs. search rules) returns (λ c κs. search rules) with-member-requires read-one-of-requires returns-2 add_start loop-less loop-again)
+pub read_members_spec : {M : Type 1} → statement M
+read_members_spec = tie.close (tie.spec invariant-loop decreases-loop slice-aggregate-front loop-holds piece-end-requires (λ c. search rules) (λ c. search rules) (λ c. search rules) (λ c κs. search rules) (λ c κs. search rules) returns (λ c κs. search rules) with-member-requires read-one-of-requires returns-2 add_start loop-less loop-again)

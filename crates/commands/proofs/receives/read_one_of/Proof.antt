@@ -8,12 +8,12 @@ use Rattle.commands.proofs.receives.read_one_of.Statement.{statement}
 use Rattle.commands.proofs.receives.read_one_of.Tie as tie
 
 -- there is room for one number
-read-numbers-requires : tie.Need-read-numbers-requires
+read-numbers-requires : tie.Need-read_numbers-last-requires
 read-numbers-requires c κs = rw c.before.before.starting-at.ensures (stands-start _ _ c.before.before.before.before.requires, omega arith)
 
 -- the cursor stands within the line
 close-requires : tie.Need-close-requires
-close-requires c κs = c.before.before.read-numbers.ensures.stands
+close-requires c κs = c.before.before.read_numbers-last.ensures.stands
 
 -- the number is the time code
 returns : tie.Need-returns
@@ -21,7 +21,7 @@ unfolding ascii up_to
 returns c =
     let at-read-numbers = c.before.before.before in
     let at-starting-at = at-read-numbers.before.before.before in
-    spells_as (one_of_read _ _ _ _ _ _ _ _ (rw at-starting-at.starting-at.ensures at at-read-numbers.read-numbers.ensures)) (rw c.before.low_byte.ensures at c.close.ensures)
+    spells_as (one_of_read _ _ _ _ _ _ _ _ (rw at-starting-at.starting-at.ensures at at-read-numbers.read_numbers-last.ensures)) (rw c.before.low_byte-time.ensures at c.close.ensures)
 
-pub read-one-of-spec : {M : Type 1} → statement M
-read-one-of-spec = tie.close (tie.spec (λ c κs. search rules) (λ c. search rules) (λ c. search rules) read-numbers-requires (λ c. search rules) (λ c κs. search rules) close-requires returns)
+pub read_one_of_spec : {M : Type 1} → statement M
+read_one_of_spec = tie.close (tie.spec (λ c κs. search rules) (λ c. search rules) (λ c. search rules) read-numbers-requires (λ c. search rules) (λ c κs. search rules) close-requires returns)

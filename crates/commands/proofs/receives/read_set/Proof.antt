@@ -8,29 +8,29 @@ use Rattle.commands.proofs.receives.read_set.Statement.{statement}
 use Rattle.commands.proofs.receives.read_set.Tie as tie
 
 -- there is room for one number
-read-numbers-requires : tie.Need-read-numbers-requires
+read-numbers-requires : tie.Need-read_numbers-last-requires
 read-numbers-requires c κs = rw c.before.before.starting-at.ensures (stands-start _ _ c.before.before.before.before.requires, omega arith)
 
 -- the number was not read
-returns : tie.Need-returns
+returns : tie.Need-returns-then-reason-ne0
 unfolding ascii up_to
 returns c =
     let at-read-numbers = c.before.before.before in
     let at-starting-at = at-read-numbers.before.before.before in
-    rw c.misspelled.ensures (set-stopped _ _ _ _ _ _ _ (rw at-starting-at.starting-at.ensures at at-read-numbers.read-numbers.ensures) c.before.if1.true)
+    rw c.misspelled.ensures (set-stopped _ _ _ _ _ _ _ (rw at-starting-at.starting-at.ensures at at-read-numbers.read_numbers-last.ensures) c.before.if-reason-ne0.true)
 
 -- the cursor stands within the line
-read-one-of-requires : tie.Need-read-one-of-requires
-read-one-of-requires c κs = c.before.before.read-numbers.ensures.stands.behind
+read-one-of-requires : tie.Need-read_one_of-requires
+read-one-of-requires c κs = c.before.before.read_numbers-last.ensures.stands.behind
 
 -- it is the set
-returns-2 : tie.Need-returns-2
+returns-2 : tie.Need-returns
 unfolding ascii up_to
 returns-2 c =
     let at-if1 = c.before in
     let at-read-numbers = at-if1.before.before in
     let at-starting-at = at-read-numbers.before.before.before in
-    spells_as (set-read _ _ _ _ _ _ _ (rw at-starting-at.starting-at.ensures at at-read-numbers.read-numbers.ensures) at-if1.if1.false) c.read-one-of.ensures
+    spells_as (set-read _ _ _ _ _ _ _ (rw at-starting-at.starting-at.ensures at at-read-numbers.read_numbers-last.ensures) at-if1.if-reason-ne0.false) c.read_one_of.ensures
 
-pub read-set-spec : {M : Type 1} → statement M
-read-set-spec = tie.close (tie.spec (λ c κs. search rules) (λ c. search rules) (λ c. search rules) read-numbers-requires (λ c κs. search rules) returns (λ c. search rules) read-one-of-requires returns-2)
+pub read_set_spec : {M : Type 1} → statement M
+read_set_spec = tie.close (tie.spec (λ c κs. search rules) (λ c. search rules) (λ c. search rules) read-numbers-requires (λ c κs. search rules) returns (λ c. search rules) read-one-of-requires returns-2)

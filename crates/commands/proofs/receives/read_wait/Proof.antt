@@ -12,57 +12,57 @@ use Rattle.commands.proofs.receives.read_wait.Statement.{statement}
 use Rattle.commands.proofs.receives.read_wait.Tie as tie
 
 -- once a word was compared: the way back to where it was found
-abbrev found : tie.After-is-word → tie.After-next-word
+abbrev found : tie.After-is-word → tie.After-next_word-span
 found c = c.before.before.before
 
 -- once it was compared again: the way back to the first time
-abbrev first : tie.After-is-word2 → tie.After-is-word
+abbrev first : tie.After-is_word-2 → tie.After-is-word
 first c = c.before.before.before
 
 -- the word `any`
-returns : tie.Need-returns
+returns : tie.Need-returns-then-is_word
 unfolding ascii up_to same_numbers
 returns c =
     let compared = c.before.before in
-    let there = (found compared).next_word.ensures in
-    let e = sym compared.is_IsWord.ensures ∙ c.before.if1.true in
-    spells_as (wait_any _ _ _ (starts_yes _ _ _ _ there _ refl e) (starts_behind _ _ _ _ there _ refl e)) c.read-open.ensures
+    let there = (found compared).next_word-span.ensures in
+    let e = sym compared.is_IsWord.ensures ∙ c.before.if-is_word.true in
+    spells_as (wait_any _ _ _ (starts_yes _ _ _ _ there _ refl e) (starts_behind _ _ _ _ there _ refl e)) c.read_open.ensures
 
 -- another
-other : (c : tie.Else1) → starts_with (ascii "any") (words (drop (found c.before).before.before.args.at (found c.before).before.before.args.line.now)) ≡ false
+other : (c : tie.Else-is_word) → starts_with (ascii "any") (words (drop (found c.before).before.before.args.at (found c.before).before.before.args.line.now)) ≡ false
 unfolding ascii up_to same_numbers
-other c = starts_no _ _ _ _ (found c.before).next_word.ensures _ refl (sym c.before.is_IsWord.ensures ∙ c.if1.false)
+other c = starts_no _ _ _ _ (found c.before).next_word-span.ensures _ refl (sym c.before.is_IsWord.ensures ∙ c.if-is_word.false)
 
 -- the word `set`
-returns-2 : tie.Need-returns-2
+returns-2 : tie.Need-returns-then-is_word-2
 unfolding ascii up_to same_numbers
 returns-2 c =
     let compared = c.before.before in
-    let there = (found (first compared)).next_word.ensures in
-    let e = sym compared.is-word2.ensures ∙ c.before.if2.true in
+    let there = (found (first compared)).next_word-span.ensures in
+    let e = sym compared.is_word-2.ensures ∙ c.before.if-is_word-2.true in
     spells_as (wait-set _ _ (other compared.before.before) _ (starts_yes _ _ _ _ there _ refl e) (starts_behind _ _ _ _ there _ refl e)) c.read_set.ensures
 
 -- neither
-neither : (c : tie.Else2) → let entry = (found (first c.before)).before.before in
+neither : (c : tie.Else-is_word-2) → let entry = (found (first c.before)).before.before in
     read_partners entry.args.send (words (drop entry.args.at entry.args.line.now)) ≡ read_wait entry.args.send (words (drop entry.args.at entry.args.line.now))
 unfolding ascii up_to same_numbers
 neither c =
     let compared = c.before in
-    wait-partners _ _ (other compared.before.before) (starts_no _ _ _ _ (found (first compared)).next_word.ensures _ refl (sym compared.is-word2.ensures ∙ c.if2.false))
+    wait-partners _ _ (other compared.before.before) (starts_no _ _ _ _ (found (first compared)).next_word-span.ensures _ refl (sym compared.is_word-2.ensures ∙ c.if-is_word-2.false))
 
 -- a word with a comma
-returns-3 : tie.Need-returns-3
+returns-3 : tie.Need-returns-then-has_comma
 returns-3 c =
     let at-has-comma = c.before.before in
-    let there = (found (first at-has-comma.before.before)).next_word.ensures in
-    spells_as (partners-some _ _ _ _ _ there (sym at-has-comma.has-comma.ensures ∙ c.before.if3.true) ∙ neither at-has-comma.before) c.read-members.ensures
+    let there = (found (first at-has-comma.before.before)).next_word-span.ensures in
+    spells_as (partners-some _ _ _ _ _ there (sym at-has-comma.has_comma.ensures ∙ c.before.if-has_comma.true) ∙ neither at-has-comma.before) c.read_members.ensures
 
 -- one without
-returns-4 : tie.Need-returns-4
+returns-4 : tie.Need-returns
 returns-4 c =
     let at-has-comma = c.before.before in
-    let there = (found (first at-has-comma.before.before)).next_word.ensures in
-    spells_as (partners-one _ _ _ _ _ there (sym at-has-comma.has-comma.ensures ∙ c.before.if3.false) ∙ neither at-has-comma.before) c.read-closed.ensures
+    let there = (found (first at-has-comma.before.before)).next_word-span.ensures in
+    spells_as (partners-one _ _ _ _ _ there (sym at-has-comma.has_comma.ensures ∙ c.before.if-has_comma.false) ∙ neither at-has-comma.before) c.read_closed.ensures
 
-pub read-wait-spec : {M : Type 1} → statement M
-read-wait-spec = tie.close (tie.spec (λ c κs. search rules) (λ c. search rules) (λ c. search rules) (λ c. search rules) (λ c. search rules) (λ c κs. search rules) (λ c κs. search rules) returns (λ c. search rules) (λ c κs. search rules) (λ c κs. search rules) returns-2 (λ c κs. search rules) (λ c κs. search rules) returns-3 (λ c κs. search rules) returns-4)
+pub read_wait_spec : {M : Type 1} → statement M
+read_wait_spec = tie.close (tie.spec (λ c κs. search rules) (λ c. search rules) (λ c. search rules) (λ c. search rules) (λ c. search rules) (λ c κs. search rules) (λ c κs. search rules) returns (λ c. search rules) (λ c κs. search rules) (λ c κs. search rules) returns-2 (λ c κs. search rules) (λ c κs. search rules) returns-3 (λ c κs. search rules) returns-4)

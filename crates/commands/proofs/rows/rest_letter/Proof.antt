@@ -6,7 +6,7 @@ use Rattle.commands.proofs.rows.rest_letter.Tie as tie
 -- the last column
 returns : tie.Need-returns
 unfolding rest_letter
-returns c = c.byte-of-row.ensures
+returns c = c.byte_of_row.ensures
 
-pub rest-letter-spec : {M : Type 1} → statement M
-rest-letter-spec = tie.close (tie.spec (λ c. search rules) (λ c κs. search rules) returns)
+pub rest_letter_spec : {M : Type 1} → statement M
+rest_letter_spec = tie.close (tie.spec (λ c. search rules) (λ c κs. search rules) returns)

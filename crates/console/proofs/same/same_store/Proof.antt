@@ -4,15 +4,15 @@ use Rattle.console.proofs.same.same_store.Statement.{statement}
 use Rattle.console.proofs.same.same_store.Tie as tie
 
 -- at most 320 words are compared
-abbrev invariant-loop : tie.invariant-loop
+abbrev invariant-loop : tie.invariant-loop-i
 invariant-loop a b i₀ i = i ≤ 320
 
 -- how many are left
-abbrev decreases-loop : tie.decreases-loop
+abbrev decreases-loop : tie.decreases-loop-i
 decreases-loop a b i₀ i = 320 - i
 
-pub same-store-spec : {M : Type 1} → statement M
-same-store-spec =
+pub same_store_spec : {M : Type 1} → statement M
+same_store_spec =
     tie.close
     (tie.spec
     invariant-loop

@@ -4,15 +4,15 @@ use Rattle.dialogue.proofs.fields.spread.Statement.{statement}
 use Rattle.dialogue.proofs.fields.spread.Tie as tie
 
 -- no length has changed
-abbrev invariant-loop : tie.invariant-loop
+abbrev invariant-loop : tie.invariant-loop-i
 invariant-loop store₀ word i₀ store i = (i ≤ length store₀) × (length store ≡ length store₀)
 
 -- how many words are left
-abbrev decreases-loop : tie.decreases-loop
+abbrev decreases-loop : tie.decreases-loop-i
 decreases-loop store₀ word i₀ store i = length store₀ - i
 
-pub spread-spec : {M : Type 1} → statement M
-spread-spec =
+pub spread_spec : {M : Type 1} → statement M
+spread_spec =
     tie.close
     (tie.spec
     invariant-loop

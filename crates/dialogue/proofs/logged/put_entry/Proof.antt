@@ -4,15 +4,15 @@ use Rattle.dialogue.proofs.logged.put_entry.Statement.{statement}
 use Rattle.dialogue.proofs.logged.put_entry.Tie as tie
 
 -- no length has changed
-abbrev invariant-loop : tie.invariant-loop
+abbrev invariant-loop : tie.invariant-loop-i
 invariant-loop log₀ place sender target named start i₀ log i = (i ≤ 11) × (length log ≡ length log₀)
 
 -- how many numbers are left
-abbrev decreases-loop : tie.decreases-loop
+abbrev decreases-loop : tie.decreases-loop-i
 decreases-loop log₀ place sender target named start i₀ log i = 11 - i
 
-pub put-entry-spec : {M : Type 1} → statement M
-put-entry-spec =
+pub put_entry_spec : {M : Type 1} → statement M
+put_entry_spec =
     tie.close
     (tie.spec
     invariant-loop

@@ -4,15 +4,15 @@ use Rattle.dialogue.proofs.logged.words_at.Statement.{statement}
 use Rattle.dialogue.proofs.logged.words_at.Tie as tie
 
 -- the array keeps its length
-abbrev invariant-loop : tie.invariant-loop
+abbrev invariant-loop : tie.invariant-loop-i
 invariant-loop log place start words₀ i₀ words i = (i ≤ 8) × (8 ≡ length words)
 
 -- how many words are left
-abbrev decreases-loop : tie.decreases-loop
+abbrev decreases-loop : tie.decreases-loop-i
 decreases-loop log place start words₀ i₀ words i = 8 - i
 
-pub words-at-spec : {M : Type 1} → statement M
-words-at-spec =
+pub words_at_spec : {M : Type 1} → statement M
+words_at_spec =
     tie.close
     (tie.spec
     invariant-loop

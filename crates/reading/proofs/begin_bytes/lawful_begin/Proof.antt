@@ -7,7 +7,7 @@ use Rattle.reading.proofs.begin_bytes.lawful_begin.Tie as tie
 -- ---- the place of the code from which the need below speaks
 -- the three bits of the parts byte are known
 abbrev Bits : Type 0
-Bits = tie.After-open-bit
+Bits = tie.After-open_bit-open
 
 abbrev entry : Bits → tie.Start
 entry b = b.before.before.before.before.before
@@ -18,10 +18,10 @@ unfolding lawful_begin
 returns c =
     let b : Bits = c.before.before.before.before.before.before.before in
     let sends = send_bit (parts_byte (entry b).args.bytes.now) in
-    rw (b.before.before.send-bit.ensures, b.before.receive-bit.ensures, b.open-bit.ensures, c.no-word-past.ensures) (begin-joined _ _ _ sends _ _ _ _)
+    rw (b.before.before.send_bit-sends.ensures, b.before.receive_bit-receives.ensures, b.open_bit-open.ensures, c.no_word_past.ensures) (begin-joined _ _ _ sends _ _ _ _)
 
-pub lawful-begin-spec : {M : Type 1} → statement M
-lawful-begin-spec =
+pub lawful_begin_spec : {M : Type 1} → statement M
+lawful_begin_spec =
     tie.close
     (tie.spec
     (λ c. search rules)

@@ -6,10 +6,10 @@ use Rattle.reading.proofs.begin_bytes.lawful_set.Tie as tie
 
 returns : tie.Need-returns
 unfolding lawful_set
-returns c = rw (c.before.before.receive-bit.ensures, c.before.open-bit.ensures) (all-joined _ _)
+returns c = rw (c.before.before.receive_bit.ensures, c.before.open_bit.ensures) (all-joined _ _)
 
-pub lawful-set-spec : {M : Type 1} → statement M
-lawful-set-spec =
+pub lawful_set_spec : {M : Type 1} → statement M
+lawful_set_spec =
     tie.close
     (tie.spec
     (λ c. search rules)

@@ -7,5 +7,5 @@ returns : tie.Need-returns
 unfolding open_bit
 returns c = refl
 
-pub open-bit-spec : {M : Type 1} → statement M
-open-bit-spec = tie.close (tie.spec returns)
+pub open_bit_spec : {M : Type 1} → statement M
+open_bit_spec = tie.close (tie.spec returns)

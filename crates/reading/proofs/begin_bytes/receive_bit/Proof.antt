@@ -7,5 +7,5 @@ returns : tie.Need-returns
 unfolding receive_bit
 returns c = refl
 
-pub receive-bit-spec : {M : Type 1} → statement M
-receive-bit-spec = tie.close (tie.spec returns)
+pub receive_bit_spec : {M : Type 1} → statement M
+receive_bit_spec = tie.close (tie.spec returns)

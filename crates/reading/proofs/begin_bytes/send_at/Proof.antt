@@ -5,10 +5,10 @@ use Rattle.reading.proofs.begin_bytes.send_at.Tie as tie
 
 returns : tie.Need-returns
 unfolding operation_of
-returns c = let present = c.before.before.before in rw (present.before.before.words-at.ensures, present.send-bit.ensures)
+returns c = let present = c.before.before.before in rw (present.before.before.words_at-words.ensures, present.send_bit.ensures)
 
-pub send-at-spec : {M : Type 1} → statement M
-send-at-spec =
+pub send_at_spec : {M : Type 1} → statement M
+send_at_spec =
     tie.close
     (tie.spec
     (λ c κs. search rules)

@@ -7,5 +7,5 @@ returns : tie.Need-returns
 unfolding send_bit
 returns c = refl
 
-pub send-bit-spec : {M : Type 1} → statement M
-send-bit-spec = tie.close (tie.spec returns)
+pub send_bit_spec : {M : Type 1} → statement M
+send_bit_spec = tie.close (tie.spec returns)

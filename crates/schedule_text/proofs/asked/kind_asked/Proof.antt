@@ -10,16 +10,16 @@ use Rattle.schedule_text.proofs.asked.kind_asked.Statement.{statement}
 use Rattle.schedule_text.proofs.asked.kind_asked.Tie as tie
 
 -- the test is that of the definition
-tested : (c : tie.After-names-set) → let a = c.before.args in (eqb a.row begin_kind && names_set a.op.receive) ≡ (eqb a.row begin_kind && c.names-set.result)
-tested c = ap (λ (b : Bool). eqb c.before.args.row begin_kind && b) (sym c.names-set.ensures)
+tested : (c : tie.After-names-set) → let a = c.before.args in (eqb a.row begin_kind && names_set a.op.receive) ≡ (eqb a.row begin_kind && c.names_set.result)
+tested c = ap (λ (b : Bool). eqb c.before.args.row begin_kind && b) (sym c.names_set.ensures)
 
-returns : tie.Need-returns
+returns : tie.Need-returns-then-row-names_set
 unfolding kind_asked
-returns c = sym (cond-true _ _ _ (tested c.before ∙ c.if1.true))
+returns c = sym (cond-true _ _ _ (tested c.before ∙ c.if-row-names_set.true))
 
-returns-2 : tie.Need-returns-2
+returns-2 : tie.Need-returns
 unfolding kind_asked
-returns-2 c = sym (cond-false _ _ _ (tested c.before ∙ c.if1.false))
+returns-2 c = sym (cond-false _ _ _ (tested c.before ∙ c.if-row-names_set.false))
 
-pub kind-asked-spec : {M : Type 1} → statement M
-kind-asked-spec = tie.close (tie.spec (λ c κs. search rules) returns returns-2)
+pub kind_asked_spec : {M : Type 1} → statement M
+kind_asked_spec = tie.close (tie.spec (λ c κs. search rules) returns returns-2)

@@ -4,17 +4,17 @@ use Rattle.schedule_text.proofs.Lawful.{accepted-lawful, refused-unlawful}
 use Rattle.schedule_text.proofs.bytes.put_lawful.Statement.{statement}
 use Rattle.schedule_text.proofs.bytes.put_lawful.Tie as tie
 
-returns : tie.Need-returns
+returns : tie.Need-returns-in-Refused
 returns c =
-    let written = c.before.before.before.before in
+    let written = c.before.before.before in
     let entry = written.before.before.before in
-    refused-unlawful written.write.ensures c.enum_told.given.1 (record_typed entry.args.item _ entry.well-formed.1.0).op.eight entry.requires
+    refused-unlawful written.write-answer.ensures c.in-Refused.is (record_typed entry.args.item _ entry.well-formed.1.0).op.eight entry.requires
 
-returns-2 : tie.Need-returns-2
-returns-2 c = accepted-lawful c.before.before.before.write.ensures c.match.keys2
+returns-2 : tie.Need-returns
+returns-2 c = accepted-lawful c.before.before.before.write-answer.ensures c.in_default.in_default-own.keys2
 
-pub put-lawful-spec : {M : Type 1} → statement M
-put-lawful-spec =
+pub put_lawful_spec : {M : Type 1} → statement M
+put_lawful_spec =
     tie.close
     (tie.spec
     (λ c κs. search rules)

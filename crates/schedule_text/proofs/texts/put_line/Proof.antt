@@ -13,7 +13,7 @@ unfolding record_text ascii up_to
 returns c =
     let ended = c.before.before in
     let named = ended.before.before.before.before in
-    printed (named.put_record.ensures.0 then ended.put_byte.ensures) (rw length-append (omega (arith, named.put_record.ensures.1)))
+    printed (named.put_record-end.ensures.0 then ended.put_byte.ensures) (rw length-append (omega (arith, named.put_record-end.ensures.1)))
 
-pub put-line-spec : {M : Type 1} → statement M
-put-line-spec = tie.close (tie.spec (λ c κs. search rules) (λ c κs. search rules) (λ c. search rules) returns)
+pub put_line_spec : {M : Type 1} → statement M
+put_line_spec = tie.close (tie.spec (λ c κs. search rules) (λ c κs. search rules) (λ c. search rules) returns)

@@ -5,15 +5,15 @@ use Rattle.speaking.proofs.names.put_entry.Statement.{statement}
 use Rattle.speaking.proofs.names.put_entry.Tie as tie
 
 -- the next entry starts within the list
-abbrev invariant-loop : tie.invariant-loop
+abbrev invariant-loop : tie.invariant-loop-i
 invariant-loop out start list k from₀ i₀ from i = from ≤ length list
 
 -- how many entries are still to be passed
-abbrev decreases-loop : tie.decreases-loop
+abbrev decreases-loop : tie.decreases-loop-i
 decreases-loop out start list k from₀ i₀ from i = k - i
 
-pub put-entry-spec : {M : Type 1} → statement M
-put-entry-spec =
+pub put_entry_spec : {M : Type 1} → statement M
+put_entry_spec =
     tie.close
     (tie.spec
     invariant-loop

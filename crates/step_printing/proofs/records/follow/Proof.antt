@@ -6,17 +6,17 @@ use Rattle.step_printing.proofs.records.follow.Statement.{statement}
 use Rattle.step_printing.proofs.records.follow.Tie as tie
 
 -- a table that was made has at most 32 threads
-few : (c : tie.At-match-keys2) → c.before.make.result.table.n ≤ 32
-few c = made-size _ _ _ c.before.make.ensures c.match.keys2
+few : (c : tie.In_default) → c.before.make-made.result.table-1.n ≤ 32
+few c = made-size _ _ _ c.before.make-made.ensures c.in_default.in_default-own.keys2
 
-part-follow-first-end : tie.Need-slice-bounds-follow-first-end
+part-follow-first-end : tie.Need-slice_bounds-follow_first-end
 part-follow-first-end c = omega (arith, few c.before.before.before.before)
 
-part-store-end : tie.Need-slice-bounds-store-end
+part-store-end : tie.Need-slice_bounds-store-end
 part-store-end c = omega (arith, few c.before.before.before.before.before.before.before)
 
-pub follow-spec : {M : Type 1} → statement M
-follow-spec =
+pub follow_spec : {M : Type 1} → statement M
+follow_spec =
     tie.close
     (tie.spec
     (λ c κs. search rules)

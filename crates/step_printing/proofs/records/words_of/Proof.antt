@@ -6,15 +6,15 @@ use Rattle.step_printing.proofs.records.words_of.Statement.{statement}
 use Rattle.step_printing.proofs.records.words_of.Tie as tie
 
 -- the array keeps its length
-abbrev invariant-loop : tie.invariant-loop
+abbrev invariant-loop : tie.invariant-loop-i
 invariant-loop store words₀ most i₀ words i = (i ≤ most) × (256 ≡ length words)
 
 -- how many words are left
-abbrev decreases-loop : tie.decreases-loop
+abbrev decreases-loop : tie.decreases-loop-i
 decreases-loop store words₀ most i₀ words i = most - i
 
-pub words-of-spec : {M : Type 1} → statement M
-words-of-spec =
+pub words_of_spec : {M : Type 1} → statement M
+words_of_spec =
     tie.close
     (tie.spec
     invariant-loop

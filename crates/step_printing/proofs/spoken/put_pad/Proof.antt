@@ -6,15 +6,15 @@ use Rattle.step_printing.proofs.spoken.put_pad.Statement.{statement}
 use Rattle.step_printing.proofs.spoken.put_pad.Tie as tie
 
 -- no length has changed
-abbrev invariant-loop : tie.invariant-loop
+abbrev invariant-loop : tie.invariant-loop-i
 invariant-loop out₀ start column end₀ i₀ out end i = length out ≡ length out₀
 
 -- how many columns are left
-abbrev decreases-loop : tie.decreases-loop
+abbrev decreases-loop : tie.decreases-loop-i
 decreases-loop out₀ start column end₀ i₀ out end i = column - i
 
-pub put-pad-spec : {M : Type 1} → statement M
-put-pad-spec =
+pub put_pad_spec : {M : Type 1} → statement M
+put_pad_spec =
     tie.close
     (tie.spec
     invariant-loop

@@ -13,7 +13,7 @@ returns c =
     let ended = c.before.before in
     let numbered = ended.before.before.before.before in
     let named = numbered.before.before.before.before in
-    named.put-text.ensures then numbered.put-number.ensures then ended.put_byte.ensures
+    named.put_text-named.ensures then numbered.put_number-end.ensures then ended.put_byte.ensures
 
-pub put-named-spec : {M : Type 1} → statement M
-put-named-spec = tie.close (tie.spec (λ c κs. search rules) (λ c κs. search rules) (λ c κs. search rules) (λ c. search rules) returns)
+pub put_named_spec : {M : Type 1} → statement M
+put_named_spec = tie.close (tie.spec (λ c κs. search rules) (λ c κs. search rules) (λ c κs. search rules) (λ c. search rules) returns)

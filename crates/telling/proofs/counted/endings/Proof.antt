@@ -5,15 +5,15 @@ use Rattle.telling.proofs.counted.endings.Statement.{statement}
 use Rattle.telling.proofs.counted.endings.Tie as tie
 
 -- no more lines than places
-abbrev invariant-loop : tie.invariant-loop
+abbrev invariant-loop : tie.invariant-loop-i
 invariant-loop counts lines₀ i₀ lines i = (i ≤ length counts) × (lines ≤ i)
 
 -- how many places are left
-abbrev decreases-loop : tie.decreases-loop
+abbrev decreases-loop : tie.decreases-loop-i
 decreases-loop counts lines₀ i₀ lines i = length counts - i
 
-pub endings-spec : {M : Type 1} → statement M
-endings-spec =
+pub endings_spec : {M : Type 1} → statement M
+endings_spec =
     tie.close
     (tie.spec
     invariant-loop

@@ -5,15 +5,15 @@ use Rattle.telling.proofs.counted.unchanged.Statement.{statement}
 use Rattle.telling.proofs.counted.unchanged.Tie as tie
 
 -- the place is inside or the end
-abbrev invariant-loop : tie.invariant-loop
+abbrev invariant-loop : tie.invariant-loop-i
 invariant-loop counts i₀ i = i ≤ length counts
 
 -- how many places are left
-abbrev decreases-loop : tie.decreases-loop
+abbrev decreases-loop : tie.decreases-loop-i
 decreases-loop counts i₀ i = length counts - i
 
-pub unchanged-spec : {M : Type 1} → statement M
-unchanged-spec =
+pub unchanged_spec : {M : Type 1} → statement M
+unchanged_spec =
     tie.close
     (tie.spec
     invariant-loop

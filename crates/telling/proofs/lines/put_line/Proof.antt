@@ -11,7 +11,7 @@ unfolding ascii up_to
 returns c =
     let ended = c.before.before in
     let answered = ended.before.before.before.before in
-    answered.put-answer.ensures then ended.put_byte.ensures
+    answered.put_answer-end.ensures then ended.put_byte.ensures
 
-pub put-line-spec : {M : Type 1} → statement M
-put-line-spec = tie.close (tie.spec (λ c κs. search rules) (λ c κs. search rules) (λ c. search rules) returns)
+pub put_line_spec : {M : Type 1} → statement M
+put_line_spec = tie.close (tie.spec (λ c κs. search rules) (λ c κs. search rules) (λ c. search rules) returns)

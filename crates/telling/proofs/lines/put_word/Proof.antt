@@ -11,7 +11,7 @@ unfolding ascii up_to
 returns c =
     let ended = c.before.before in
     let named = ended.before.before.before.before in
-    named.put-text.ensures then ended.put_byte.ensures
+    named.put_text-end.ensures then ended.put_byte.ensures
 
-pub put-word-spec : {M : Type 1} → statement M
-put-word-spec = tie.close (tie.spec (λ c κs. search rules) (λ c κs. search rules) (λ c. search rules) returns)
+pub put_word_spec : {M : Type 1} → statement M
+put_word_spec = tie.close (tie.spec (λ c κs. search rules) (λ c κs. search rules) (λ c. search rules) returns)

@@ -13,9 +13,9 @@ returns c =
     let ended = c.before.before in
     let told = ended.before.before.before.before in
     let answered = told.before.before.before.before in
-    answered.put-answer.ensures then told.put-misfit.ensures then ended.put_byte.ensures
+    answered.put_answer-answered.ensures then told.put_misfit-told.ensures then ended.put_byte.ensures
 
-pub put-loaded-spec : {M : Type 1} → statement M
-put-loaded-spec =
+pub put_loaded_spec : {M : Type 1} → statement M
+put_loaded_spec =
     tie.close
     (tie.spec (λ c κs. search rules) (λ c κs. search rules) (λ c κs. search rules) (λ c. search rules) returns)

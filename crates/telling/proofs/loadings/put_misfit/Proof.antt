@@ -23,39 +23,39 @@ text_of : (m k : Misfit) → m ≡ k → (name : List ℕ) → misfit_text k ≡
 text_of m k e name is = rw e is
 
 -- the rules fit: nothing is told
-returns : tie.Need-returns
+returns : tie.Need-returns-in-Fits
 unfolding misfit_text
-returns c = rw c.enum_told.given.1 (nothing_written _ _)
+returns c = rw c.in-Fits.is (nothing_written _ _)
 
 -- too many rows
-returns-2 : tie.Need-returns-2
+returns-2 : tie.Need-returns-in-TooMany
 unfolding misfit_text ascii up_to
 returns-2 c =
     let paired = c.before.before in
     let named = paired.before.before.before.before in
     let told = named.before.before.before in
-    of_pair _ (ascii " rows") _ (text_of _ _ told.enum-told2.given.1 (ascii " rows") refl) told.before.before.pair_of.ensures (named.put-text.ensures then paired.put-pair.ensures)
+    of_pair _ (ascii " rows") _ (text_of _ _ told.enum-told2.given.1 (ascii " rows") refl) told.before.pair_of.ensures (named.put_text-end.ensures then paired.put_pair.ensures)
 
 -- a gap
-returns-3 : tie.Need-returns-3
+returns-3 : tie.Need-returns-in-Gap
 unfolding misfit_text ascii up_to
 returns-3 c =
     let paired = c.before.before in
     let named = paired.before.before.before.before in
     let told = named.before.before.before in
-    of_pair _ (ascii " gap") _ (text_of _ _ told.enum-told3.given.1 (ascii " gap") refl) told.before.before.pair_of.ensures (named.put-text2.ensures then paired.put-pair2.ensures)
+    of_pair _ (ascii " gap") _ (text_of _ _ told.enum-told3.given.1 (ascii " gap") refl) told.before.pair_of.ensures (named.put_text-end-in-Gap.ensures then paired.put_pair-in-Gap.ensures)
 
 -- an overlap
-returns-4 : tie.Need-returns-4
+returns-4 : tie.Need-returns-in-Overlap
 unfolding misfit_text ascii up_to
 returns-4 c =
     let paired = c.before.before in
     let named = paired.before.before.before.before in
     let told = named.before.before.before in
-    of_pair _ (ascii " overlap") _ (text_of _ _ told.enum-told4.given.1 (ascii " overlap") refl) told.before.before.pair_of.ensures (named.put-text3.ensures then paired.put-pair3.ensures)
+    of_pair _ (ascii " overlap") _ (text_of _ _ told.enum-told4.given.1 (ascii " overlap") refl) told.before.pair_of.ensures (named.put_text-end-in-Overlap.ensures then paired.put_pair-in-Overlap.ensures)
 
-pub put-misfit-spec : {M : Type 1} → statement M
-put-misfit-spec =
+pub put_misfit_spec : {M : Type 1} → statement M
+put_misfit_spec =
     tie.close
     (tie.spec
     (λ c κs. search rules)

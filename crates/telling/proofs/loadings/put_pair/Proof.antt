@@ -14,9 +14,9 @@ returns c =
     let again = ended.before.before.before.before.before in
     let named = again.before.before.before.before in
     let spaced = named.before.before.before.before.before in
-    spaced.put_byte.ensures then named.put-number.ensures then again.put-byte2.ensures then ended.put-number2.ensures
+    spaced.put_byte-spaced.ensures then named.put_number-sender.ensures then again.put_byte-again.ensures then ended.put_number.ensures
 
-pub put-pair-spec : {M : Type 1} → statement M
-put-pair-spec =
+pub put_pair_spec : {M : Type 1} → statement M
+put_pair_spec =
     tie.close
     (tie.spec (λ c κs. search rules) (λ c. search rules) (λ c κs. search rules) (λ c κs. search rules) (λ c. search rules) (λ c κs. search rules) (λ c. search rules) returns)

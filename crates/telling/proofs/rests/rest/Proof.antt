@@ -10,30 +10,30 @@ use Rattle.telling.proofs.rests.rest.Statement.{statement}
 use Rattle.telling.proofs.rests.rest.Tie as tie
 
 -- the call is refused
-returns : tie.Need-returns
+returns : tie.Need-returns-in-Refused
 unfolding rest_text named_number answer_text ascii up_to
 returns c =
     let told = c.before.before in
-    let answered = told.before.before.before in
-    as_said rest_text (ap said_rest (sym answered.answer.given.1) ∙ answered.before.before.rest.ensures) told.put-line.ensures
+    let answered = told.before.before in
+    as_said rest_text (ap said_rest (sym answered.in-Refused.is) ∙ answered.before.rest-answer.ensures) told.put_line.ensures
 
 -- the table is at rest
-returns-2 : tie.Need-returns-2
+returns-2 : tie.Need-returns-in-AtRest
 unfolding rest_text ascii up_to
 returns-2 c =
     let told = c.before.before in
     let answered = told.before.before.before in
-    as_said rest_text (ap said_rest (sym answered.enum_told.given.1) ∙ answered.before.before.rest.ensures) told.put_word.ensures
+    as_said rest_text (ap said_rest (sym answered.enum_told.given.1) ∙ answered.before.rest.ensures) told.put_word.ensures
 
 -- a thread would move
-returns-3 : tie.Need-returns-3
+returns-3 : tie.Need-returns-in-WouldMove
 returns-3 c =
     let told = c.before.before in
-    let answered = told.before.before.before in
-    as_said rest_text (ap said_rest (sym answered.answer2.given.1) ∙ answered.before.before.rest.ensures) told.put-mover.ensures
+    let answered = told.before.before in
+    as_said rest_text (ap said_rest (sym answered.in-WouldMove.is) ∙ answered.before.rest-answer.ensures) told.put_mover.ensures
 
-pub rest-spec : {M : Type 1} → statement M
-rest-spec =
+pub rest_spec : {M : Type 1} → statement M
+rest_spec =
     tie.close
     (tie.spec
     (λ c κs. search rules)

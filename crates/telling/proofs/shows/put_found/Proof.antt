@@ -14,9 +14,9 @@ returns c =
     let counted = ended.before.before.before.before in
     let spaced = counted.before.before.before.before.before in
     let named = spaced.before.before.before.before in
-    named.put-sender.ensures then spaced.put_byte.ensures then counted.put-number.ensures then ended.put-byte2.ensures
+    named.put_sender-sender.ensures then spaced.put_byte-space.ensures then counted.put_number-read.ensures then ended.put_byte.ensures
 
-pub put-found-spec : {M : Type 1} → statement M
-put-found-spec =
+pub put_found_spec : {M : Type 1} → statement M
+put_found_spec =
     tie.close
     (tie.spec (λ c κs. search rules) (λ c κs. search rules) (λ c. search rules) (λ c κs. search rules) (λ c κs. search rules) (λ c. search rules) returns)

@@ -10,30 +10,30 @@ use Rattle.telling.proofs.shows.search.Statement.{statement}
 use Rattle.telling.proofs.shows.search.Tie as tie
 
 -- the call is refused
-returns : tie.Need-returns
+returns : tie.Need-returns-in-Refused
 unfolding search_text answer_text ascii up_to
 returns c =
     let told = c.before.before in
-    let answered = told.before.before.before in
-    as_said search_text (ap said_search (sym answered.answer.given.1) ∙ answered.before.before.search.ensures) told.put-line.ensures
+    let answered = told.before.before in
+    as_said search_text (ap said_search (sym answered.in-Refused.is) ∙ answered.before.search-answer.ensures) told.put_line.ensures
 
 -- the thread is not receiving
-returns-2 : tie.Need-returns-2
+returns-2 : tie.Need-returns-in-NotReceiving
 unfolding search_text ascii up_to
 returns-2 c =
     let told = c.before.before in
     let answered = told.before.before.before in
-    as_said search_text (ap said_search (sym answered.enum_told.given.1) ∙ answered.before.before.search.ensures) told.put_word.ensures
+    as_said search_text (ap said_search (sym answered.enum_told.given.1) ∙ answered.before.search.ensures) told.put_word.ensures
 
 -- it is
-returns-3 : tie.Need-returns-3
+returns-3 : tie.Need-returns-in-Searched
 returns-3 c =
     let told = c.before.before in
-    let answered = told.before.before.before in
-    as_said search_text (ap said_search (sym answered.answer2.given.1) ∙ answered.before.before.search.ensures) told.put-found.ensures
+    let answered = told.before.before in
+    as_said search_text (ap said_search (sym answered.in-Searched.is) ∙ answered.before.search-answer.ensures) told.put_found.ensures
 
-pub search-spec : {M : Type 1} → statement M
-search-spec =
+pub search_spec : {M : Type 1} → statement M
+search_spec =
     tie.close
     (tie.spec
     (λ c κs. search rules)

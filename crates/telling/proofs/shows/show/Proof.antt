@@ -6,15 +6,15 @@ use Rattle.telling.proofs.shows.show.Statement.{statement}
 use Rattle.telling.proofs.shows.show.Tie as tie
 
 -- no length has changed
-abbrev invariant-loop : tie.invariant-loop
+abbrev invariant-loop : tie.invariant-loop-i
 invariant-loop store out₀ table n end₀ i₀ out end i = (i ≤ 32) × (length out ≡ length out₀)
 
 -- how many threads are left
-abbrev decreases-loop : tie.decreases-loop
+abbrev decreases-loop : tie.decreases-loop-i
 decreases-loop store out₀ table n end₀ i₀ out end i = 32 - i
 
-pub show-spec : {M : Type 1} → statement M
-show-spec =
+pub show_spec : {M : Type 1} → statement M
+show_spec =
     tie.close
     (tie.spec
     invariant-loop

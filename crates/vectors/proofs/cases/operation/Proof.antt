@@ -9,23 +9,23 @@ use Rattle.vectors.proofs.cases.operation.Statement.{statement}
 use Rattle.vectors.proofs.cases.operation.Tie as tie
 
 -- the record keeps its length
-abbrev invariant-loop : tie.invariant-loop
+abbrev invariant-loop : tie.invariant-loop-i
 invariant-loop case bytes₀ i₀ bytes i = longest_record ≡ length bytes
 
 -- how many bytes are left
-abbrev decreases-loop : tie.decreases-loop
+abbrev decreases-loop : tie.decreases-loop-i
 decreases-loop case bytes₀ i₀ bytes i = longest_record - i
 
 -- the kind that is put there is that of a begin, and no kind has more bytes than there are
-operation-at-requires : tie.Need-operation-at-requires invariant-loop decreases-loop
+operation-at-requires : tie.Need-operation_at-requires invariant-loop decreases-loop
 operation-at-requires c κs =
-    let here = c.before.before.before.loop in
+    let here = c.before.before.before.loop-i in
     let long : 2 < length here.bytes = omega (arith, here.invariant) in
-    let kind = get_or-set_same here.bytes 2 c.before.operation-kind.result 0 long in
-    (rw kind c.before.operation-kind.ensures, rw (kind, length-set, ← here.invariant) (record_longest _))
+    let kind = get_or-set_same here.bytes 2 c.before.operation_kind.result 0 long in
+    (rw kind c.before.operation_kind.ensures, rw (kind, length-set, ← here.invariant) (record_longest _))
 
-pub operation-spec : {M : Type 1} → statement M
-operation-spec =
+pub operation_spec : {M : Type 1} → statement M
+operation_spec =
     tie.close
     (tie.spec
     invariant-loop

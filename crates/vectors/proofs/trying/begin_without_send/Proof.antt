@@ -4,15 +4,15 @@ use Rattle.vectors.proofs.trying.begin_without_send.Statement.{statement}
 use Rattle.vectors.proofs.trying.begin_without_send.Tie as tie
 
 -- at most all cases are tried
-abbrev invariant-loop : tie.invariant-loop
+abbrev invariant-loop : tie.invariant-loop-i
 invariant-loop all i₀ i = i ≤ 4
 
 -- how many are left
-abbrev decreases-loop : tie.decreases-loop
+abbrev decreases-loop : tie.decreases-loop-i
 decreases-loop all i₀ i = 4 - i
 
-pub begin-without-send-spec : {M : Type 1} → statement M
-begin-without-send-spec =
+pub begin_without_send_spec : {M : Type 1} → statement M
+begin_without_send_spec =
     tie.close
     (tie.spec
     invariant-loop

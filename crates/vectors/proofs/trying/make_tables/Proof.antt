@@ -4,15 +4,15 @@ use Rattle.vectors.proofs.trying.make_tables.Statement.{statement}
 use Rattle.vectors.proofs.trying.make_tables.Tie as tie
 
 -- at most all sizes are tried
-abbrev invariant-loop : tie.invariant-loop
+abbrev invariant-loop : tie.invariant-loop-i
 invariant-loop sizes i₀ i = i ≤ 5
 
 -- how many are left
-abbrev decreases-loop : tie.decreases-loop
+abbrev decreases-loop : tie.decreases-loop-i
 decreases-loop sizes i₀ i = 5 - i
 
-pub make-tables-spec : {M : Type 1} → statement M
-make-tables-spec =
+pub make_tables_spec : {M : Type 1} → statement M
+make_tables_spec =
     tie.close
     (tie.spec
     invariant-loop

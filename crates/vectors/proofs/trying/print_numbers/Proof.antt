@@ -4,15 +4,15 @@ use Rattle.vectors.proofs.trying.print_numbers.Statement.{statement}
 use Rattle.vectors.proofs.trying.print_numbers.Tie as tie
 
 -- at most all numbers are printed
-abbrev invariant-loop : tie.invariant-loop
+abbrev invariant-loop : tie.invariant-loop-i
 invariant-loop bytes i₀ i = i ≤ length bytes
 
 -- how many are left
-abbrev decreases-loop : tie.decreases-loop
+abbrev decreases-loop : tie.decreases-loop-i
 decreases-loop bytes i₀ i = length bytes - i
 
-pub print-numbers-spec : {M : Type 1} → statement M
-print-numbers-spec =
+pub print_numbers_spec : {M : Type 1} → statement M
+print_numbers_spec =
     tie.close
     (tie.spec
     invariant-loop

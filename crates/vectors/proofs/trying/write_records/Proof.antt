@@ -4,15 +4,15 @@ use Rattle.vectors.proofs.trying.write_records.Statement.{statement}
 use Rattle.vectors.proofs.trying.write_records.Tie as tie
 
 -- at most all cases are tried
-abbrev invariant-loop : tie.invariant-loop
+abbrev invariant-loop : tie.invariant-loop-i
 invariant-loop all i₀ i = i ≤ 27
 
 -- how many are left
-abbrev decreases-loop : tie.decreases-loop
+abbrev decreases-loop : tie.decreases-loop-i
 decreases-loop all i₀ i = 27 - i
 
-pub write-records-spec : {M : Type 1} → statement M
-write-records-spec =
+pub write_records_spec : {M : Type 1} → statement M
+write_records_spec =
     tie.close
     (tie.spec
     invariant-loop
