@@ -80,8 +80,8 @@ module _ (n i j : ℕ) where
         receiver = r;
         sent = p.operation;
         received = to.operation;
-        sends = inr (rw (ei, part.0) from.begins);
-        receives = inr (rw ej to.begins);
+        sends = inr (subst (λ (k : ℕ). BeginsAt s p.operation k past) (sym ei) (rw part.0 from.begins));
+        receives = inr (subst (λ (k : ℕ). BeginsAt r to.operation k past) (sym ej) to.begins);
         target = p.target;
         accepted = rw (sym wait) p.accepted;
         ended = rw (fate-now n r j (some (rendezvous s r) ∷ past) (latest_old r (some (rendezvous s r)) past refl ∙ rw ej to.latest)) (unfold played in rw (receiver-ends (played n past) s r p n) (refl, refl, refl));

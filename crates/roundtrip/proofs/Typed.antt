@@ -1,13 +1,12 @@
 -- That the fields of a record are in range is a fact of the types: a function that is given a record has it from the record's type.
 -- A projection below goes by the place of a field in its struct.
-use mathlib.Core.List.{List, [], ◌∷◌, map}
+use mathlib.Core.List.{List, [], ◌∷◌}
 use Prim.Native.Nat.{ℕ, ◌<◌}
 use native.Mathlib.Omega.{arith}
-use lib.ListN.{length-map}
 use mir.Val.{Val}
 use denote.Array.{each}
 use denote.Shadow.{shadow}
-use denote.Struct.Field.{u32-field}
+use denote.Builtin.{u32}
 use Rattle.model.specs.declared.Receive.{Receive}
 use Rattle.model.specs.declared.Receive.TheVariants.{Absent, Open, Closed, OneOf}
 use Rattle.model.specs.declared.Operation.{Operation}
@@ -21,7 +20,7 @@ use Rattle.roundtrip.specs.Fits.{AllUnder, FitsOperation, FitsRecord}
 use Rattle.roundtrip.proofs.Lists.{cons_under, nil-under}
 
 -- the words of an array are words of 32 bits
-words_typed : (l : List ℕ) (us : List Val) → shadow (each _ u32-field.row.own_val (map u32-field.into l) us) → AllUnder 0x1_0000_0000 l
+words_typed : (l : List ℕ) (us : List Val) → shadow (each _ u32.own_val l us) → AllUnder 0x1_0000_0000 l
 words_typed [] us e = nil-under _ (omega arith)
 words_typed (a ∷ l) [] e = absurd e
 words_typed (a ∷ l) (u ∷ us) e = cons_under _ a l e.0.1 (words_typed l us e.1)
@@ -43,7 +42,7 @@ operation_typed o vs g =
       target = send.1.0.1;
       count = send.1.1.0.1;
       time = send.1.1.1.0.1;
-      eight = simp length-map at words.1.0.1;
+      eight = words.1.0.1;
       words = words_typed o.send.words _ words.1.1;
       partner = partner;
       set = set;

@@ -22,7 +22,7 @@ use Rattle.laws.proofs.Lists.{bit-small}
 
 -- an array of rows has its 64 places; the projection goes by the place of the field in its struct
 pub rows_whole : (rules : Rules) (vs : List Val) → shadow (the_row.own_val rules vs) → length rules.rows ≡ 64
-rows_whole rules vs g = simp length-map at g.1.1.0.1.0.1
+rows_whole rules vs g = g.1.1.0.1.0.1
 
 -- a row behind others
 falls-behind : (rows : List Rule) (row : Rule) (s r : ℕ) → falls (rows ++ (row ∷ [])) s r ≡ falls rows s r + bit (holds_pair row s r)
