@@ -9,19 +9,19 @@ use Rattle.comparison.proofs.compare.Tie as tie
 
 -- the log of sends passes its test
 sends-pass : (p : tie.Else-not-is_good) → not (bad_log p.before.before.args.sends).when ≡ true
-sends-pass p = sym p.before.is_good.ensures ∙ not-false _ p.if-not-is_good.false
+sends-pass p = sym p.before.is_good.ensures ∙ not-false _ p.if-not-is_good.false-raw
 
 -- and that of receives
 receives-pass : (p : tie.Else-not-is_good-2) → not (bad_log p.before.before.before.before.args.receives).when ≡ true
-receives-pass p = sym p.before.is_good-2.ensures ∙ not-false _ p.if-not-is_good-2.false
+receives-pass p = sym p.before.is_good-2.ensures ∙ not-false _ p.if-not-is_good-2.false-raw
 
 -- a bad log of sends
 returns : tie.Need-returns-then-not-is_good
-returns c = bad-sends _ _ (sym c.before.is_good.ensures ∙ not-true _ c.if-not-is_good.true)
+returns c = bad-sends _ _ (sym c.before.is_good.ensures ∙ not-true _ c.if-not-is_good.true-raw)
 
 -- of receives
 returns-2 : tie.Need-returns-then-not-is_good-2
-returns-2 c = bad-receives _ _ (sends-pass c.before.before) (sym c.before.is_good-2.ensures ∙ not-true _ c.if-not-is_good-2.true)
+returns-2 c = bad-receives _ _ (sends-pass c.before.before) (sym c.before.is_good-2.ensures ∙ not-true _ c.if-not-is_good-2.true-raw)
 
 compare-good-requires : tie.Need-compare_good-requires
 compare-good-requires c κs =

@@ -34,7 +34,7 @@ abbrev Compared : Type 0
 Compared = tie.After-same-message invariant-loop decreases-loop
 
 decided : (m : Compared) → let p = top m.before.before.before.before in let args = p.before.before.before.before.before.args in
-    send_differs (entries_of args.t1) (entries_of args.t2) p.loop-i.i ≡ not m.same_message.result
+    send_differs (entries_of args.sends) (entries_of args.receives) p.loop-i.i ≡ not m.same_message.result
 decided m =
     let f = m.before.before.before.before in
     let turn = top f in
@@ -47,11 +47,11 @@ loop-holds c =
     let start = c.before.before.before.before in
     let args = start.args in
     let pre = start.requires in
-    let whole = entries-whole args.t1 _ start.well-formed.0 in
-    let all = entries-whole args.t2 _ start.well-formed.1.0 in
+    let whole = entries-whole args.sends _ start.well-formed.0 in
+    let all = entries-whole args.receives _ start.well-formed.1.0 in
     let sent = pre.1.1.0 in
     let received = pre.1.1.1 in
-    (λ k l. absurd (omega arith), whole, all, search rules, column-few args.t1 _ _ whole pre.0 sent, sent.many ∙ sym sent.as_many, column-few args.t2 _ _ all pre.1.0 received, received.many ∙ sym received.as_many)
+    (λ k l. absurd (omega arith), whole, all, search rules, column-few args.sends _ _ whole pre.0 sent, sent.many ∙ sym sent.as_many, column-few args.receives _ _ all pre.1.0 received, received.many ∙ sym received.as_many)
 
 -- it has none
 returns : tie.Need-returns-then-sources-j invariant-loop decreases-loop
@@ -73,21 +73,21 @@ same-message-requires c κs =
     let turn = top f in
     let start = turn.before.before.before.before.before in
     let pre = start.pre in
-    (column-small start.args.t1 _ _ turn.loop-i.inv.1 pre.0 pre.1.1.0 turn.loop-i.i (search rules), column-small start.args.t2 _ _ turn.loop-i.inv.2 pre.1.0 pre.1.1.1 f.find_mate-j.result (search rules))
+    (column-small start.args.sends _ _ turn.loop-i.inv.1 pre.0 pre.1.1.0 turn.loop-i.i (search rules), column-small start.args.receives _ _ turn.loop-i.inv.2 pre.1.0 pre.1.1.1 f.find_mate-j.result (search rules))
 
 -- it differs
 returns-2 : tie.Need-returns-then-not-same_message invariant-loop decreases-loop
 returns-2 c =
     let f = c.before.before.before.before.before in
     let turn = top f in
-    first-here _ _ _ turn.loop-i.i turn.before.before.before.before.before.pre.1.1.0.many (search rules) (decided c.before ∙ c.if-not-same_message.true) turn.loop-i.inv.0
+    first-here _ _ _ turn.loop-i.i turn.before.before.before.before.before.pre.1.1.0.many (search rules) (decided c.before ∙ c.if-not-same_message.true-raw) turn.loop-i.inv.0
 
 loop-again : tie.Need-loop-i-preserved invariant-loop decreases-loop
 loop-again c =
     let f = c.before.before.before.before.before in
     let turn = top f in
     let inv = turn.loop-i.inv in
-    (λ k l. same? k turn.loop-i.i (λ e. rw e (decided c.before ∙ c.if-not-same_message.false)) (λ d. inv.0 k (omega arith)), inv.1, inv.2, search rules, search rules, search rules, search rules, search rules)
+    (λ k l. same? k turn.loop-i.i (λ e. rw e (decided c.before ∙ c.if-not-same_message.false-raw)) (λ d. inv.0 k (omega arith)), inv.1, inv.2, search rules, search rules, search rules, search rules, search rules)
 
 -- none does
 returns-3 : tie.Need-returns invariant-loop decreases-loop

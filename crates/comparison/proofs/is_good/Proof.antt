@@ -22,12 +22,12 @@ returns : tie.Need-returns-then-log-gt-LOG_ROOM invariant-loop decreases-loop
 returns c = too_long _ (search rules)
 
 loop-holds : tie.Need-loop-i-init invariant-loop decreases-loop
-loop-holds c = (search rules, entries-whole c.before.args.t1 _ c.before.well-formed.0, λ k l. absurd (omega arith))
+loop-holds c = (search rules, entries-whole c.before.args.log _ c.before.well-formed.0, λ k l. absurd (omega arith))
 
 returns-2 : tie.Need-returns-then-entry-gt-WORD_LIMIT invariant-loop decreases-loop
 returns-2 c =
     let turn = c.before.before.before.before in
-    too_many turn.before.before.args.t1 turn.loop-i.invariant.1 (search rules) turn.loop-i.i (search rules) c.if-entry-gt-WORD_LIMIT.true
+    too_many turn.before.before.args.log turn.loop-i.invariant.1 (search rules) turn.loop-i.i (search rules) c.if-entry-gt-WORD_LIMIT.true
 
 loop-again : tie.Need-loop-i-preserved invariant-loop decreases-loop
 loop-again c =
@@ -35,7 +35,7 @@ loop-again c =
     (search rules, turn.loop-i.invariant.1, λ k l. same? k turn.loop-i.i (λ e. rw e c.if-entry-gt-WORD_LIMIT.false) (λ d. turn.loop-i.invariant.2 k (omega arith)))
 
 returns-3 : tie.Need-returns invariant-loop decreases-loop
-returns-3 c = let turn = c.before in not-bad turn.before.before.args.t1 turn.loop-i.invariant.1 (search rules) (λ i l. turn.loop-i.invariant.2 i (search rules))
+returns-3 c = let turn = c.before in not-bad turn.before.before.args.log turn.loop-i.invariant.1 (search rules) (λ i l. turn.loop-i.invariant.2 i (search rules))
 
 pub is_good_spec : {M : Type 1} → statement M
 is_good_spec =

@@ -16,13 +16,13 @@ abbrev decreases-loop : tie.decreases-loop-i
 decreases-loop senders₀ targets₀ log len i₀ senders targets i = len - i
 
 loop-holds : tie.Need-loop-i-init invariant-loop decreases-loop
-loop-holds c = (search rules, entries-whole c.args.t1 _ c.well-formed.0, search rules, search rules, λ k l. absurd (omega arith))
+loop-holds c = (search rules, entries-whole c.args.log _ c.well-formed.0, search rules, search rules, λ k l. absurd (omega arith))
 
 loop-again : tie.Need-loop-i-preserved invariant-loop decreases-loop
 loop-again c =
     let turn = c.before.before in
     let inv = turn.loop-i.invariant in
-    (search rules, inv.1, search rules, search rules, filled_more turn.before.args.t1 turn.loop-i.i turn.loop-i.senders turn.loop-i.targets (search rules) (search rules) inv.4)
+    (search rules, inv.1, search rules, search rules, filled_more turn.before.args.log turn.loop-i.i turn.loop-i.senders turn.loop-i.targets (search rules) (search rules) inv.4)
 
 same_length : tie.Need-shape_of-senders invariant-loop decreases-loop
 same_length c = c.before.loop-i.invariant.2 ∙ sym c.before.before.requires.1.0
@@ -33,7 +33,7 @@ same-length-2 c = c.before.loop-i.invariant.3 ∙ sym c.before.before.requires.1
 returns : tie.Need-returns invariant-loop decreases-loop
 returns c =
     let turn = c.before in
-    let log = turn.before.args.t1 in
+    let log = turn.before.args.log in
     let all : turn.loop-i.i ≡ log.len = search rules in
     filled-all log turn.loop-i.invariant.1 turn.before.requires.0.few _ _ turn.loop-i.invariant.2 turn.loop-i.invariant.3 (rw all at turn.loop-i.invariant.4)
 

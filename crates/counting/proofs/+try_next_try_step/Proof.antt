@@ -72,7 +72,7 @@ module _ (t : ℕ) where
   abbrev Entry : Type 0
   Entry = try-step-lts.Start (claims t) (try-step-at t) try-step.Post
 
-  below : (s : Entry) → s.args.x < s.args.t1.n
+  below : (s : Entry) → s.args.x < s.args.table.n
   below s = s.pre.1.1
 
   -- the later threads' lists are counted
@@ -117,7 +117,7 @@ module _ (t : ℕ) where
   abbrev ended-made : Ended → Made
   ended-made e = e.before.before.before.before.before
 
-  leaves : (e : Ended) → let m = ended-made e in Leaves (start m).args.x (get_or (start m).args.t1.threads (start m).args.x zero_thread) (get_or (start m).args.t1.threads (found m).other_or_own-j.result zero_thread)
+  leaves : (e : Ended) → let m = ended-made e in Leaves (start m).args.x (get_or (start m).args.table.threads (start m).args.x zero_thread) (get_or (start m).args.table.threads (found m).other_or_own-j.result zero_thread)
       e.before.before.end_threads-both.result.own e.before.before.end_threads-both.result.other
   leaves e =
       let m = ended-made e in
@@ -134,13 +134,13 @@ module _ (t : ℕ) where
   abbrev ended-after : Placed → Few
   ended-after d =
       let m = placed-made d in
-      put_both (start m).args.x d.before.before.before.end_threads-both.result.own (found m).other_or_own-j.result d.before.before.before.end_threads-both.result.other d.place_with-p.result (start m).args.t1
+      put_both (start m).args.x d.before.before.before.end_threads-both.result.own (found m).other_or_own-j.result d.before.before.before.end_threads-both.result.other d.place_with-p.result (start m).args.table
 
   -- it leads there
-  ended-leads : (d : Placed) (u : Table) → Whole (start (placed-made d)).args.t1 u → d.place_with-p.result ≡ place_of (after_step (start (placed-made d)).args.x u)
+  ended-leads : (d : Placed) (u : Table) → Whole (start (placed-made d)).args.table u → d.place_with-p.result ≡ place_of (after_step (start (placed-made d)).args.x u)
   ended-leads d u W = let m = placed-made d in leads-ended W.front (start m).args.x (below (start m)) _ _ (found m).before.other_number-other_number.ensures (found m).other_or_own-j.ensures (leaves d.before) _ d.place_with-p.ensures.0
 
-  ended_to : (d : Placed) → SteppedTo (start (placed-made d)).args.t1 (start (placed-made d)).args.x (ended-after d)
+  ended_to : (d : Placed) → SteppedTo (start (placed-made d)).args.table (start (placed-made d)).args.x (ended-after d)
   ended_to d u W = let m = placed-made d in whole-ended W.front (start m).args.x (below (start m)) _ _ (found m).before.other_number-other_number.ensures (found m).other_or_own-j.ensures (leaves d.before) _ d.place_with-p.ensures.0
 
   -- it ends nothing
@@ -154,7 +154,7 @@ module _ (t : ℕ) where
   goes g = sym g.if-is_ending.left ∙ g.before.is_ending.ensures
 
   -- it leads to the place where it started
-  goes-leads : (g : GoesOn) (u : Table) → Whole (start (goes-made g)).args.t1 u → (start (goes-made g)).args.t1.place ≡ place_of (after_step (start (goes-made g)).args.x u)
+  goes-leads : (g : GoesOn) (u : Table) → Whole (start (goes-made g)).args.table u → (start (goes-made g)).args.table.place ≡ place_of (after_step (start (goes-made g)).args.x u)
   goes-leads g u W = let m = goes-made g in leads-on W.front (start m).args.x (below (start m)) _ _ (found m).before.other_number-other_number.ensures (found m).other_or_own-j.ensures _ (leaves-changed _ _ _ m.change_of-change.result m.change_of-change.ensures (goes g)) W.place
 
   -- ---- the needs, up to the step
@@ -283,7 +283,7 @@ module _ (t : ℕ) where
   abbrev stays_on : Stays → GoesOn
   stays_on e = e.before.before.before
 
-  same-to : (e : Stays) → let m = goes-made (stays_on e) in SteppedTo (start m).args.t1 (start m).args.x (start m).args.t1
+  same-to : (e : Stays) → let m = goes-made (stays_on e) in SteppedTo (start m).args.table (start m).args.x (start m).args.table
   same-to e u W =
       let g = stays_on e in
       let m = goes-made g in
@@ -315,8 +315,8 @@ module _ (t : ℕ) where
   abbrev changed-on : Changed → GoesOn
   changed-on d = d.before.before.before.before.before
 
-  changed-to : (d : Changed) → let m = goes-made (changed-on d) in SteppedTo (start m).args.t1 (start m).args.x
-      (put_both (start m).args.x d.change_own.result (found m).other_or_own-j.result d.before.change_other.result (start m).args.t1.place (start m).args.t1)
+  changed-to : (d : Changed) → let m = goes-made (changed-on d) in SteppedTo (start m).args.table (start m).args.x
+      (put_both (start m).args.x d.change_own.result (found m).other_or_own-j.result d.before.change_other.result (start m).args.table.place (start m).args.table)
   changed-to d u W =
       let g = changed-on d in
       let m = goes-made g in

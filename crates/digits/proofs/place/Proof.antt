@@ -30,7 +30,7 @@ abbrev turn : Read → Turn
 turn d = d.before.before.before
 
 -- with it, one outcome more is read
-more : (d : Read) → Placed (entry (turn d)).args.n (entry (turn d)).args.t2 ((turn d).before.loop-i.i - 1) (d.digit.result + 8 * (turn d).before.loop-i.p)
+more : (d : Read) → Placed (entry (turn d)).args.n (entry (turn d)).args.outcomes ((turn d).before.loop-i.i - 1) (d.digit.result + 8 * (turn d).before.loop-i.p)
 more d =
     let w = turn d in
     placed-more (entry w).pre w.before.loop-i.i w.before.loop-i.p d.digit.result w.loop-i-test.taken (d.digit.ensures ∙ ap (λ (z : ℤ). digit_of z) (search rules)) w.before.loop-i.inv

@@ -20,7 +20,7 @@ abbrev call : tie.Start → Call
 call s = begin_via s.args.via s.args.thread s.args.op
 
 abbrev found : tie.Start → State
-found s = state s.args.t2 s.args.store.now
+found s = state s.args.table s.args.store.now
 
 -- the rows on the table are tested
 abbrev TableTested : Type 0
@@ -38,7 +38,7 @@ table-tested p = p.before.before
 
 -- what they say
 place-rows : (p : PlaceTested) → let s = entry (table-tested p) in
-    p.argument_refusal-second.result ≡ first_refusal (argument_rows s.args.t2 s.args.thread (length s.args.store.now))
+    p.argument_refusal-second.result ≡ first_refusal (argument_rows s.args.table s.args.thread (length s.args.store.now))
 place-rows p = p.argument_refusal-second.ensures _ refl
 
 -- the first row that holds after those on the table refuses the call
@@ -55,13 +55,13 @@ place-tested b = b.before.before.before
 
 -- what they say
 begin-rows : (b : BeginTested) → let s = entry (table-tested (place-tested b)) in
-    b.begin_refusal-third.result ≡ first_refusal (unruled_rows s.args.via s.args.t2 s.args.thread s.args.op)
+    b.begin_refusal-third.result ≡ first_refusal (unruled_rows s.args.via s.args.table s.args.thread s.args.op)
 unfolding at
 begin-rows b = b.begin_refusal-third.ensures _ refl refl
 
 -- the first row that holds after those on the number and the length refuses the call
 last : (b : BeginTested) → let s = entry (table-tested (place-tested b)) in
-    (g : ℕ) → g ≡ first_refusal (begin_rows s.args.via s.args.t2 s.args.thread s.args.op) → g ≢ 0 → Promise (call s) (found s) (Refused g) (found s)
+    (g : ℕ) → g ≡ first_refusal (begin_rows s.args.via s.args.table s.args.thread s.args.op) → g ≢ 0 → Promise (call s) (found s) (Refused g) (found s)
 last b g e =
     let p = place-tested b in
     let s = entry (table-tested p) in
@@ -76,7 +76,7 @@ begin-tested r = r.before.before.before
 
 -- what it says
 all-rows : (r : RulesTested) → let s = entry (table-tested (place-tested (begin-tested r))) in
-    r.permit_refusal-fourth.result ≡ first_refusal (begin_rows s.args.via s.args.t2 s.args.thread s.args.op)
+    r.permit_refusal-fourth.result ≡ first_refusal (begin_rows s.args.via s.args.table s.args.thread s.args.op)
 all-rows r = then_rules _ _ _ _ _ _ (begin-rows (begin-tested r)) r.before.before.if-third-ne0.false (r.permit_refusal-fourth.ensures _ refl refl)
 
 -- it does not hold either
@@ -92,7 +92,7 @@ accepted q =
     let b = begin-tested q.before in
     let p = place-tested b in
     let s = start q in
-    let t = s.args.t2 in
+    let t = s.args.table in
     let none = b.before.before.if-second-ne0.left in
     begin-number (found s) (table-formed t _ (table-tested p).table_refusal-first.ensures p.before.if-first-ne0.left) s.args.thread
     (place-below t _ _ _ (place-rows p) none) (place-store t _ _ _ (place-rows p) none) s.args.via s.args.op
@@ -116,7 +116,7 @@ returns-2 c =
 element-copy-out-own : tie.Need-bounds-table-i
 element-copy-out-own c =
     let p = c.before in
-    let t = (entry (table-tested p)).args.t2 in
+    let t = (entry (table-tested p)).args.table in
     omega (arith, table-few t _ (table-tested p).table_refusal-first.ensures p.before.if-first-ne0.false, place-below t _ _ _ (place-rows p) c.if-second-ne0.false)
 
 -- a row on the thread or its operation refuses
@@ -131,7 +131,7 @@ permit-refusal-requires : tie.Need-permit_refusal-fourth-requires
 permit-refusal-requires c κs =
     let p = place-tested c.before.before in
     let t = table-tested p in
-    table-few-rules (entry t).args.t2 _ t.table_refusal-first.ensures p.before.if-first-ne0.left
+    table-few-rules (entry t).args.table _ t.table_refusal-first.ensures p.before.if-first-ne0.left
 
 -- the row on the rules refuses
 returns-4 : tie.Need-returns-then-fourth-ne0

@@ -19,7 +19,7 @@ abbrev call : tie.Start → Call
 call s = cancel s.args.thread
 
 abbrev found : tie.Start → List ℕ → State
-found s store = state s.args.t1 store
+found s store = state s.args.table store
 
 -- the rows on the table are tested
 abbrev TableTested : Type 0
@@ -37,7 +37,7 @@ table-tested m = m.before.before
 
 -- what it says
 number-row : (m : NumberTested) → let s = entry (table-tested m) in
-    m.number_refusal-second.result ≡ first_refusal (no_thread s.args.t1 s.args.thread ∷ [])
+    m.number_refusal-second.result ≡ first_refusal (no_thread s.args.table s.args.thread ∷ [])
 number-row m = m.number_refusal-second.ensures _ refl
 
 -- the first row that holds after those on the table refuses the call
@@ -54,7 +54,7 @@ number-tested l = l.before.before.before
 
 -- what it says
 lock-row : (l : LockTested) → let s = entry (table-tested (number-tested l)) in
-    l.lock_refusal-third.result ≡ first_refusal (lock_owned s.args.t1 s.args.thread ∷ [])
+    l.lock_refusal-third.result ≡ first_refusal (lock_owned s.args.table s.args.thread ∷ [])
 unfolding at
 lock-row l = l.lock_refusal-third.ensures _ _ refl
 
@@ -76,7 +76,7 @@ returns-2 c =
 element-copy-out-own : tie.Need-bounds-table-i
 element-copy-out-own c =
     let m = c.before in
-    let t = (entry (table-tested m)).args.t1 in
+    let t = (entry (table-tested m)).args.table in
     omega (arith, table-few t _ (table-tested m).table_refusal-first.ensures m.before.if-first-ne0.false, number-below t _ _ (number-row m) c.if-second-ne0.false)
 
 -- the row on the lock refuses
@@ -93,7 +93,7 @@ cancel-requires c κs =
     let l = c.before in
     let m = number-tested l in
     let s = entry (table-tested m) in
-    let t = s.args.t1 in
+    let t = s.args.table in
     cancel-accepted (found s []) (table-formed t _ (table-tested m).table_refusal-first.ensures m.before.if-first-ne0.left) s.args.thread
     (number-below t _ _ (number-row m) l.before.before.if-second-ne0.false) (lock-unowned t _ _ (lock-row l) c.if-third-ne0.false)
 

@@ -25,7 +25,7 @@ tested l = l.before
 
 -- so it is lawful
 lawfully : (l : Lawful) → lawful true (front (entry (tested l)).args.bytes.now) ≡ true
-lawfully l = let r = tested l in sym r.is_lawful.ensures ∙ not-false r.is_lawful.result l.if-not-is_lawful.false
+lawfully l = let r = tested l in sym r.is_lawful.ensures ∙ not-false r.is_lawful.result l.if-not-is_lawful.false-raw
 
 -- its number of threads is tested
 abbrev SizeTested : Type 0
@@ -43,7 +43,7 @@ number z = z.size_refusal-number.ensures ∙ sym (opens _ (lawfully (lawful-ther
 returns : tie.Need-returns-then-not-is_lawful
 returns c =
     let r = c.before.before in
-    let bad : lawful true (front (entry r).args.bytes.now) ≡ false = sym r.is_lawful.ensures ∙ not-true r.is_lawful.result c.before.if-not-is_lawful.true in
+    let bad : lawful true (front (entry r).args.bytes.now) ≡ false = sym r.is_lawful.ensures ∙ not-true r.is_lawful.result c.before.if-not-is_lawful.true-raw in
     let refused = sym (not_opened _ bad) in
     (refused, (c.fresh.ensures ∙ ap opened (sym (refused-size _ 12 refused (λ e. omega arith))), λ e. absurd (omega arith)))
 

@@ -16,14 +16,14 @@ abbrev entry : tie.After-argument_refusal-second → tie.Start
 entry c = c.before.before.before.before
 
 -- the number found is the one by which the call is refused
-number : (c : tie.After-argument_refusal-second) → c.argument_refusal-second.result ≡ refusal (step (entry c).args.thread) (state (entry c).args.t1 (entry c).args.store.now)
+number : (c : tie.After-argument_refusal-second) → c.argument_refusal-second.result ≡ refusal (step (entry c).args.thread) (state (entry c).args.table (entry c).args.store.now)
 unfolding later_rows
 number c = later-number _ _ _ c.before.before.table_refusal-first.ensures c.before.if-first-ne0.false _ (c.argument_refusal-second.ensures _ refl)
 
 -- where it is 0, the thread is in the array
 own-there : (c : tie.After-argument_refusal-second) → c.argument_refusal-second.result ≡ 0 → (entry c).args.thread < 32
 own-there c z =
-    let t = (entry c).args.t1 in
+    let t = (entry c).args.table in
     omega (arith, table-few t _ c.before.before.table_refusal-first.ensures c.before.if-first-ne0.false, place-below t _ _ _ (c.argument_refusal-second.ensures t refl) z)
 
 -- the table is refused

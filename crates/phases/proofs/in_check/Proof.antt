@@ -49,13 +49,13 @@ returns-3 : tie.Need-returns-then-late
 returns-3 c =
     let n = c.before.before in
     let a = (entry (read (unmarked n))).args in
-    settled _ _ _ _ (check-late a.x a.own a.other (unmarked n).if-own.false (waits n) (eqb-true _ _ c.before.if-late.true)) (c.end_by-then-late.ensures a.x _ refl)
+    settled _ _ _ _ (check-late a.x a.own a.other (unmarked n).if-own.false (waits n) (eqb-true _ _ c.before.if-late.true-raw)) (c.end_by-then-late.ensures a.x _ refl)
 
 returns-4 : tie.Need-returns
 returns-4 c =
     let n = c.before.before in
     let a = (entry (read (unmarked n))).args in
-    settled _ _ _ _ (check_releases a.x a.own a.other (unmarked n).if-own.false (waits n) (eqb-false _ _ c.before.if-late.false)) (c.go_to_release.ensures a.x)
+    settled _ _ _ _ (check_releases a.x a.own a.other (unmarked n).if-own.false (waits n) (eqb-false _ _ c.before.if-late.false-raw)) (c.go_to_release.ensures a.x)
 
 pub in_check_spec : {M : Type 1} → statement M
 in_check_spec =

@@ -7,12 +7,6 @@ use Rattle.printing.proofs.Bounds.{bad-short}
 use Rattle.printing.proofs.bad_line.Statement.{statement}
 use Rattle.printing.proofs.bad_line.Tie as tie
 
-slice-aggregate-put-numbers : tie.Need-slice-aggregate-put-numbers
-slice-aggregate-put-numbers c = search rules
-
-slice-aggregate-put-numbers-2 : tie.Need-slice-aggregate-put-numbers-2
-slice-aggregate-put-numbers-2 c = search rules
-
 put-numbers-requires : tie.Need-put_numbers-requires
 put-numbers-requires c κs = search rules
 
@@ -30,8 +24,6 @@ pub bad_line_spec : {M : Type 1} → statement M
 bad_line_spec =
     tie.close
     (tie.spec
-    slice-aggregate-put-numbers
-    slice-aggregate-put-numbers-2
     put-numbers-requires
     same_length
     returns)

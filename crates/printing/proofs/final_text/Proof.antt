@@ -8,12 +8,6 @@ use Rattle.printing.proofs.Texts.{final_written}
 use Rattle.printing.proofs.final_text.Statement.{statement}
 use Rattle.printing.proofs.final_text.Tie as tie
 
-slice-aggregate-put-numbers : tie.Need-slice-aggregate-put-numbers
-slice-aggregate-put-numbers c = search rules
-
-slice-aggregate-put-numbers-2 : tie.Need-slice-aggregate-put-numbers-2
-slice-aggregate-put-numbers-2 c = search rules
-
 put-numbers-requires : tie.Need-put_numbers-told-requires
 put-numbers-requires c κs = search rules
 
@@ -36,8 +30,6 @@ pub final_text_spec : {M : Type 1} → statement M
 final_text_spec =
     tie.close
     (tie.spec
-    slice-aggregate-put-numbers
-    slice-aggregate-put-numbers-2
     put-numbers-requires
     put-threads-requires
     same_length

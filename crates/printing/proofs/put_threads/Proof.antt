@@ -51,7 +51,7 @@ unfolding at
 loop-again c =
     let turn = c.before.before in
     let entry = turn.before.before.before in
-    let t = entry.args.t1 in
+    let t = entry.args.table in
     let reached = turn.loop-x.invariant in
     let long : length t.threads ≡ 32 = simp length-map at entry.well-formed.0.1.1.1.0.1.0.1 in
     elim c.if-i-lt32.branch [
@@ -65,7 +65,7 @@ same_length : tie.Need-shape_of-out invariant-loop decreases-loop
 same_length c = written-length c.before.loop-x.invariant.1
 
 returns : tie.Need-returns invariant-loop decreases-loop
-returns c = let all : c.before.loop-x.x ≡ c.before.before.before.before.args.t1.n = omega arith in (rw all at c.before.loop-x.invariant.1, rw all at c.before.loop-x.invariant.2)
+returns c = let all : c.before.loop-x.x ≡ c.before.before.before.before.args.table.n = omega arith in (rw all at c.before.loop-x.invariant.1, rw all at c.before.loop-x.invariant.2)
 
 pub put_threads_spec : {M : Type 1} → statement M
 put_threads_spec =

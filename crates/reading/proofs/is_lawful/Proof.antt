@@ -21,7 +21,7 @@ abbrev entry : Headed → tie.Start
 entry h = h.before.before.before.before
 
 headed : (h : Headed) → lawful_head (entry h).args.first (entry h).args.bytes.now ≡ true
-headed h = sym h.before.lawful_head.ensures ∙ not-false h.before.lawful_head.result h.if-not-lawful_head.false
+headed h = sym h.before.lawful_head.ensures ∙ not-false h.before.lawful_head.result h.if-not-lawful_head.false-raw
 
 -- it is a begin's
 abbrev Begin : Type 0
@@ -31,7 +31,7 @@ abbrev known : Begin → Headed
 known b = b.before.before.before
 
 begins : (b : Begin) → is_begin (kind_byte (entry (known b)).args.bytes.now) ≡ true
-begins b = sym b.before.is_begin.ensures ∙ not-false b.before.is_begin.result b.if-not-is_begin.false
+begins b = sym b.before.is_begin.ensures ∙ not-false b.before.is_begin.result b.if-not-is_begin.false-raw
 
 -- the begin is whole
 abbrev Whole : Type 0
@@ -51,12 +51,12 @@ returns : tie.Need-returns-then-bytes-lt-HEAD_BYTES
 returns c = sym (lawful_cut _ _ (omega (arith, record_head (kind_byte c.before.before.args.bytes.now))))
 
 returns-2 : tie.Need-returns-then-not-lawful_head
-returns-2 c = sym (lawful-no-head _ _ (sym c.before.lawful_head.ensures ∙ not-true c.before.lawful_head.result c.if-not-lawful_head.true))
+returns-2 c = sym (lawful-no-head _ _ (sym c.before.lawful_head.ensures ∙ not-true c.before.lawful_head.result c.if-not-lawful_head.true-raw))
 
 returns-3 : tie.Need-returns-then-not-is_begin
 returns-3 c =
     let told = c.before in let h : Headed = told.before.before in
-    sym (lawful-other _ _ (headed h) h.before.before.if-bytes-lt-HEAD_BYTES.false (sym told.is_begin.ensures ∙ not-true told.is_begin.result c.if-not-is_begin.true))
+    sym (lawful-other _ _ (headed h) h.before.before.if-bytes-lt-HEAD_BYTES.false (sym told.is_begin.ensures ∙ not-true told.is_begin.result c.if-not-is_begin.true-raw))
 
 returns-4 : tie.Need-returns-then-bytes-record_length
 returns-4 c = sym (lawful_cut _ _ (omega (arith, c.before.record_length.ensures, c.if-bytes-record_length.true)))

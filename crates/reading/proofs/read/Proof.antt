@@ -19,7 +19,7 @@ abbrev entry : Lawful → tie.Start
 entry l = l.before.before.before
 
 lawfully : (l : Lawful) → lawful (entry l).args.first (front (entry l).args.bytes.now) ≡ true
-lawfully l = sym l.before.is_lawful.ensures ∙ not-false l.before.is_lawful.result l.if-not-is_lawful.false
+lawfully l = sym l.before.is_lawful.ensures ∙ not-false l.before.is_lawful.result l.if-not-is_lawful.false-raw
 
 -- it is known whether it is a begin
 abbrev Told : Type 0
@@ -30,17 +30,17 @@ known t = t.before.before.before
 
 -- ---- the needs
 returns : tie.Need-returns-then-not-is_lawful
-returns c = refused-read _ _ _ (sym c.before.before.is_lawful.ensures ∙ not-true c.before.before.is_lawful.result c.before.if-not-is_lawful.true) c.bare_record-nothing.ensures
+returns c = refused-read _ _ _ (sym c.before.before.is_lawful.ensures ∙ not-true c.before.before.is_lawful.result c.before.if-not-is_lawful.true-raw) c.bare_record-nothing.ensures
 
 returns-2 : tie.Need-returns-then-not-is_begin
 returns-2 c =
     let t : Told = c.before.before in
-    accepted-read _ _ _ (lawfully (known t)) (c.bare_record-item.ensures ∙ bare-read _ (sym t.is_begin.ensures ∙ not-true t.is_begin.result c.before.if-not-is_begin.true))
+    accepted-read _ _ _ (lawfully (known t)) (c.bare_record-item.ensures ∙ bare-read _ (sym t.is_begin.ensures ∙ not-true t.is_begin.result c.before.if-not-is_begin.true-raw))
 
 operation-at-requires : tie.Need-operation_at-op-requires
 operation-at-requires c κs =
     let t : Told = c.before in
-    (sym t.is_begin.ensures ∙ not-false t.is_begin.result c.if-not-is_begin.false, lawful-long _ _ (lawfully (known t)))
+    (sym t.is_begin.ensures ∙ not-false t.is_begin.result c.if-not-is_begin.false-raw, lawful-long _ _ (lawfully (known t)))
 
 returns-3 : tie.Need-returns
 returns-3 c = accepted-read _ _ _ (lawfully (known c.before.before)) (rw c.operation_at-op.ensures (front_read _))

@@ -46,14 +46,14 @@ unfolding at
 loop-again c =
     let now = c.before.before.before.loop-i in
     let below : now.i < 32 = c.before.before.loop-i-test.true in
-    (search rules, refl, rw now.invariant.2 (filled_more c.before.before.before.before.before.args.t1 now.i _ _ below refl))
+    (search rules, refl, rw now.invariant.2 (filled_more c.before.before.before.before.before.args.table now.i _ _ below refl))
 
 returns : tie.Need-returns invariant-loop decreases-loop
 unfolding all_outcomes
 returns c =
     let now = c.before.loop-i in
     let all : now.i ≡ 32 = omega arith in
-    rw (now.invariant.2, all) (filled-all c.before.before.before.args.t1 32 _ (omega arith))
+    rw (now.invariant.2, all) (filled-all c.before.before.before.args.table 32 _ (omega arith))
 
 pub outcomes_of_spec : {M : Type 1} → statement M
 outcomes_of_spec =

@@ -27,13 +27,13 @@ loop-less : tie.Need-loop-x-smaller invariant-loop decreases-loop
 loop-less c = search rules
 
 loop-again : tie.Need-loop-x-preserved invariant-loop decreases-loop
-loop-again c = goes_on c.before.before.before.loop-x.invariant c.before.before.if-n-x.false (sym c.before.would_stay.ensures ∙ not-false _ c.if-not-would_stay.false)
+loop-again c = goes_on c.before.before.before.loop-x.invariant c.before.before.if-n-x.false (sym c.before.would_stay.ensures ∙ not-false _ c.if-not-would_stay.false-raw)
 
 returns : tie.Need-returns-then-n-x invariant-loop decreases-loop
 returns c = all-tried c.before.loop-x.invariant c.if-n-x.true
 
 returns-2 : tie.Need-returns-then-not-would_stay invariant-loop decreases-loop
-returns-2 c = stops-here c.before.before.before.loop-x.invariant c.before.before.if-n-x.false (sym c.before.would_stay.ensures ∙ not-true _ c.if-not-would_stay.true)
+returns-2 c = stops-here c.before.before.before.loop-x.invariant c.before.before.if-n-x.false (sym c.before.would_stay.ensures ∙ not-true _ c.if-not-would_stay.true-raw)
 
 pub first_to_move_spec : {M : Type 1} → statement M
 first_to_move_spec = tie.close (tie.spec invariant-loop decreases-loop loop-holds would-stay-requires add-x loop-less loop-again returns returns-2)

@@ -22,16 +22,16 @@ returns : tie.Need-returns-then-last-t invariant-loop decreases-loop
 returns c = counted-all _ _ c.before.before.loop-t.invariant (inl c.if-last-t.true)
 
 element-copy-out-counts : tie.Need-bounds-counts-i invariant-loop decreases-loop
-element-copy-out-counts c = search rules
+element-copy-out-counts c.before = search rules
 
 add-counts : tie.Need-overflow_add-counts invariant-loop decreases-loop
-add-counts c = let turn = c.before.before.before in omega (arith, next-count _ _ turn.loop.invariant (search rules), turn.before.requires.1.room turn.loop.t (search rules))
+add-counts c = let turn = c.before.before.before.before in omega (arith, next-count _ _ turn.loop-t.invariant (search rules), turn.before.requires.1.room turn.loop-t.t (search rules))
 
 element-write-counts : tie.Need-bounds-counts-i-in-loop-t invariant-loop decreases-loop
 element-write-counts c = search rules
 
 loop-again : tie.Need-loop-t-preserved invariant-loop decreases-loop
-loop-again c = counted-more _ _ c.before.before.before.loop.invariant (search rules) (search rules) (search rules)
+loop-again c = counted-more _ _ c.before.before.before.before.loop-t.invariant (search rules) (search rules) (search rules)
 
 -- past the table
 returns-2 : tie.Need-returns invariant-loop decreases-loop

@@ -26,13 +26,13 @@ returns-2 : tie.Need-returns-then-not-is_fit invariant-loop decreases-loop
 returns-2 c =
     let found = c.before.before in
     let turn = found.before.before in
-    sender-decides _ _ (search rules) turn.loop-s.s turn.loop-s.invariant.1 _ found.sender_misfit-found.ensures (search rules) (sym c.before.is_fit.ensures ∙ not-true c.before.is_fit.result c.if-not-is_fit.true)
+    sender-decides _ _ (search rules) turn.loop-s.s turn.loop-s.invariant.1 _ found.sender_misfit-found.ensures (search rules) (sym c.before.is_fit.ensures ∙ not-true c.before.is_fit.result c.if-not-is_fit.true-raw)
 
 loop-again : tie.Need-loop-s-preserved invariant-loop decreases-loop
 loop-again c =
     let found = c.before.before in
     let turn = found.before.before in
-    (search rules, fit-more _ _ (search rules) turn.loop-s.s turn.loop-s.invariant.1 _ found.sender_misfit-found.ensures (sym c.before.is_fit.ensures ∙ not-false c.before.is_fit.result c.if-not-is_fit.false))
+    (search rules, fit-more _ _ (search rules) turn.loop-s.s turn.loop-s.invariant.1 _ found.sender_misfit-found.ensures (sym c.before.is_fit.ensures ∙ not-false c.before.is_fit.result c.if-not-is_fit.false-raw))
 
 -- all fit
 returns-3 : tie.Need-returns invariant-loop decreases-loop

@@ -23,11 +23,11 @@ loop-holds c = passing-start _ _ _ c.before.requires
 
 -- it ends at the first other byte
 returns : tie.Need-returns-then-not-is_blank invariant-loop decreases-loop
-returns c = run-here _ _ _ c.before.before.before.before.loop-i.invariant (sym c.before.is_blank.ensures ∙ not-true c.before.is_blank.result c.if-not-is_blank.true)
+returns c = run-here _ _ _ c.before.before.before.before.loop-i.invariant (sym c.before.is_blank.ensures ∙ not-true c.before.is_blank.result c.if-not-is_blank.true-raw)
 
 -- it goes on
 loop-again : tie.Need-loop-i-preserved invariant-loop decreases-loop
-loop-again c = passing-more _ _ _ c.before.before.before.before.loop-i.invariant c.before.before.before.loop-i-test.true (sym c.before.is_blank.ensures ∙ not-false c.before.is_blank.result c.if-not-is_blank.false)
+loop-again c = passing-more _ _ _ c.before.before.before.before.loop-i.invariant c.before.before.before.loop-i-test.true (sym c.before.is_blank.ensures ∙ not-false c.before.is_blank.result c.if-not-is_blank.false-raw)
 
 -- or ends where the bytes do
 returns-2 : tie.Need-returns invariant-loop decreases-loop

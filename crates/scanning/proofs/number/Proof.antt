@@ -29,11 +29,11 @@ returns-2 : tie.Need-returns-then-not-is_digit invariant-loop decreases-loop
 returns-2 c =
     let at-loop-test = c.before.before.before in
     let turn = at-loop-test.before in
-    digits-stop _ _ _ turn.loop-i.invariant at-loop-test.loop-i-test.true (sym c.before.is_digit.ensures ∙ not-true c.before.is_digit.result c.if-not-is_digit.true)
+    digits-stop _ _ _ turn.loop-i.invariant at-loop-test.loop-i-test.true (sym c.before.is_digit.ensures ∙ not-true c.before.is_digit.result c.if-not-is_digit.true-raw)
 
 -- a digit
 with-digit-requires : tie.Need-with_digit-value-requires invariant-loop decreases-loop
-with-digit-requires c κs = (c.before.before.before.before.loop-i.invariant.capped, sym c.before.is_digit.ensures ∙ not-false c.before.is_digit.result c.if-not-is_digit.false)
+with-digit-requires c κs = (c.before.before.before.before.loop-i.invariant.capped, sym c.before.is_digit.ensures ∙ not-false c.before.is_digit.result c.if-not-is_digit.false-raw)
 
 -- one digit more
 loop-again : tie.Need-loop-i-preserved invariant-loop decreases-loop
@@ -41,7 +41,7 @@ loop-again c =
     let at-is-digit = c.before.before in
     let at-loop-test = at-is-digit.before.before in
     let turn = at-loop-test.before in
-    digits_more _ _ _ turn.loop-i.invariant _ at-loop-test.loop-i-test.true (sym at-is-digit.is_digit.ensures ∙ not-false at-is-digit.is_digit.result c.before.if-not-is_digit.false) c.with_digit-value.ensures
+    digits_more _ _ _ turn.loop-i.invariant _ at-loop-test.loop-i-test.true (sym at-is-digit.is_digit.ensures ∙ not-false at-is-digit.is_digit.result c.before.if-not-is_digit.false-raw) c.with_digit-value.ensures
 
 -- every byte is a digit
 returns-3 : tie.Need-returns invariant-loop decreases-loop

@@ -22,7 +22,7 @@ abbrev entry : NumberTested → tie.Start
 entry m = m.before.before.before
 
 abbrev table : NumberTested → Table
-table m = (entry m).args.t1
+table m = (entry m).args.table
 
 -- what the row on the number says
 number-row : (m : NumberTested) → m.number_refusal-second.result ≡ first_refusal (no_thread (table m) (entry m).args.thread ∷ [])

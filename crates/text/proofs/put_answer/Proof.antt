@@ -9,9 +9,6 @@ use Rattle.text.proofs.put_answer.Tie as tie
 enum-known-answer : tie.Need-enum_known-answer
 enum-known-answer c = search rules
 
-slice-aggregate-put-text : tie.Need-slice-aggregate-put-text
-slice-aggregate-put-text c = search rules
-
 put-text-requires : tie.Need-put_text-end-requires
 put-text-requires c κs = search rules
 
@@ -24,17 +21,11 @@ put-number-requires c κs = search rules
 enum_told : tie.Need-enum_told-1
 enum_told c = search rules
 
-slice-aggregate-put-text-2 : tie.Need-slice-aggregate-put-text-2
-slice-aggregate-put-text-2 c = search rules
-
 put-text-requires-2 : tie.Need-put_text-requires
 put-text-requires-2 c κs = search rules
 
 enum-told-2 : tie.Need-enum_told-in-Marked
 enum-told-2 c = search rules
-
-slice-aggregate-put-text-3 : tie.Need-slice-aggregate-put-text-3
-slice-aggregate-put-text-3 c = search rules
 
 put-text-requires-3 : tie.Need-put_text-requires-in-Marked
 put-text-requires-3 c κs = search rules
@@ -42,17 +33,11 @@ put-text-requires-3 c κs = search rules
 enum-told-3 : tie.Need-enum_told-in-NothingToCancel
 enum-told-3 c = search rules
 
-slice-aggregate-put-text-4 : tie.Need-slice-aggregate-put-text-4
-slice-aggregate-put-text-4 c = search rules
-
 put-text-requires-4 : tie.Need-put_text-requires-in-NothingToCancel
 put-text-requires-4 c κs = search rules
 
 enum-told-4 : tie.Need-enum_told-in-Moved
 enum-told-4 c = search rules
-
-slice-aggregate-put-text-5 : tie.Need-slice-aggregate-put-text-5
-slice-aggregate-put-text-5 c = search rules
 
 put-text-requires-5 : tie.Need-put_text-requires-in-Moved
 put-text-requires-5 c κs = search rules
@@ -60,17 +45,11 @@ put-text-requires-5 c κs = search rules
 enum-told-5 : tie.Need-enum_told-in-Idle
 enum-told-5 c = search rules
 
-slice-aggregate-put-text-6 : tie.Need-slice-aggregate-put-text-6
-slice-aggregate-put-text-6 c = search rules
-
 put-text-requires-6 : tie.Need-put_text-requires-in-Idle
 put-text-requires-6 c κs = search rules
 
 enum-told-6 : tie.Need-enum_told-in-Held
 enum-told-6 c = search rules
-
-slice-aggregate-put-text-7 : tie.Need-slice-aggregate-put-text-7
-slice-aggregate-put-text-7 c = search rules
 
 put-text-requires-7 : tie.Need-put_text-requires-in-Held
 put-text-requires-7 c κs = search rules
@@ -78,17 +57,11 @@ put-text-requires-7 c κs = search rules
 enum-told-7 : tie.Need-enum_told-in-Wants
 enum-told-7 c = search rules
 
-slice-aggregate-put-text-8 : tie.Need-slice-aggregate-put-text-8
-slice-aggregate-put-text-8 c = search rules
-
 put-text-requires-8 : tie.Need-put_text-requires-in-Wants
 put-text-requires-8 c κs = search rules
 
 enum-told-8 : tie.Need-enum_told-in-Asleep
 enum-told-8 c = search rules
-
-slice-aggregate-put-text-9 : tie.Need-slice-aggregate-put-text-9
-slice-aggregate-put-text-9 c = search rules
 
 put-text-requires-9 : tie.Need-put_text-requires-in-Asleep
 put-text-requires-9 c κs = search rules
@@ -165,33 +138,24 @@ put_answer_spec =
     tie.close
     (tie.spec
     enum-known-answer
-    slice-aggregate-put-text
     put-text-requires
     cast-put-number
     put-number-requires
     enum_told
-    slice-aggregate-put-text-2
     put-text-requires-2
     enum-told-2
-    slice-aggregate-put-text-3
     put-text-requires-3
     enum-told-3
-    slice-aggregate-put-text-4
     put-text-requires-4
     enum-told-4
-    slice-aggregate-put-text-5
     put-text-requires-5
     enum-told-5
-    slice-aggregate-put-text-6
     put-text-requires-6
     enum-told-6
-    slice-aggregate-put-text-7
     put-text-requires-7
     enum-told-7
-    slice-aggregate-put-text-8
     put-text-requires-8
     enum-told-8
-    slice-aggregate-put-text-9
     put-text-requires-9
     same_length
     returns

@@ -14,7 +14,7 @@ returns c = let long : length tick_counts ≤ c.before.args.code = omega arith i
 mul-result : tie.Need-offset_bounds-i
 mul-result c = search rules
 
-array-read-result : tie.Need-array-read-result
+array-read-result : tie.Need-bounds-i
 array-read-result c = search rules
 
 returns-2 : tie.Need-returns

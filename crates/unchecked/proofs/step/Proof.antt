@@ -13,7 +13,7 @@ use Rattle.unchecked.proofs.step.Tie as tie
 
 -- ---- the places of the code from which the needs below speak; each leads back to the one before
 -- at the entry the table's arrays are whole
-shaped : (s : tie.Start) → Shaped s.args.t1
+shaped : (s : tie.Start) → Shaped s.args.table
 shaped s = accepted-shaped _ _ s.requires _ s.well-formed.0
 
 -- and thread x has a place in the array
@@ -35,12 +35,12 @@ abbrev read : Both → Read
 read b = b.before.before.before
 
 -- thread x's lock is free
-free : (b : Both) → (at (entry (read b)).args.t1 (entry (read b)).args.x).owner ≡ nobody
+free : (b : Both) → (at (entry (read b)).args.table (entry (read b)).args.x).owner ≡ nobody
 unfolding at
 free b = b.before.before.if-own.false
 
 -- the other thread's number is that of the definition
-finds : (b : Both) → b.before.other_number-other_number.result ≡ other (at (entry (read b)).args.t1 (entry (read b)).args.x)
+finds : (b : Both) → b.before.other_number-other_number.result ≡ other (at (entry (read b)).args.table (entry (read b)).args.x)
 unfolding at
 finds b = b.before.other_number-other_number.ensures
 

@@ -14,7 +14,7 @@ abbrev decreases-loop : tie.decreases-loop-k
 decreases-loop n owners r i owner₀ k₀ owner k = n - k
 
 element-copy-out-owner : tie.Need-bounds-owners-i invariant-loop decreases-loop
-element-copy-out-owner c = search rules
+element-copy-out-owner c.before = search rules
 
 loop-holds : tie.Need-loop-k-init invariant-loop decreases-loop
 loop-holds c = (search rules, followed_none _ _ _ (search rules))
@@ -29,7 +29,7 @@ cast-j : tie.Need-overflow_cast-j invariant-loop decreases-loop
 cast-j c = search rules
 
 element-copy-out-owner-2 : tie.Need-bounds-owners-j invariant-loop decreases-loop
-element-copy-out-owner-2 c = search rules
+element-copy-out-owner-2 c.before = search rules
 
 add-k : tie.Need-overflow_add-k invariant-loop decreases-loop
 add-k c = search rules
@@ -38,7 +38,7 @@ loop-less : tie.Need-loop-k-smaller invariant-loop decreases-loop
 loop-less c = search rules
 
 loop-again : tie.Need-loop-k-preserved invariant-loop decreases-loop
-loop-again c = (search rules, followed_more c.before.before.before.before.loop.invariant.1 (search rules) c.before.if2.false)
+loop-again c = (search rules, followed_more c.before.before.before.before.before.loop-k.invariant.1 (search rules) c.before.before.if-owner-r.false)
 
 returns-3 : tie.Need-returns invariant-loop decreases-loop
 returns-3 c = followed_all c.before.loop-k.invariant.1 (search rules)

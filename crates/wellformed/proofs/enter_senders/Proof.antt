@@ -33,10 +33,10 @@ cast-j : tie.Need-overflow_cast-j invariant-loop decreases-loop
 cast-j c = search rules
 
 element-copy-out-if2 : tie.Need-bounds-waits-j invariant-loop decreases-loop
-element-copy-out-if2 c = search rules
+element-copy-out-if2 c.before = search rules
 
 returns-2 : tie.Need-returns-then-waits-j invariant-loop decreases-loop
-returns-2 c = let loop = c.before.before.before.before.loop in
+returns-2 c = let loop = c.before.before.before.before.before.loop-i in
     waits_already _ loop.i (search rules) (search rules) loop.invariant.2 c.if-waits-j.true
 
 element-write-waits : tie.Need-bounds-waits-j-in-loop-i invariant-loop decreases-loop
@@ -50,8 +50,8 @@ loop-less c = search rules
 
 loop-again : tie.Need-loop-i-preserved invariant-loop decreases-loop
 loop-again c =
-    let loop = c.before.before.before.before.loop in
-    let items = c.before.before.before.before.before.before.before.args.h.queue.items in
+    let loop = c.before.before.before.before.before.loop-i in
+    let items = c.before.before.before.before.before.before.before.before.args.h.queue.items in
     let l : loop.i < length items = search rules in
     (search rules, search rules, rw (add-one, take-suc items loop.i 0 l) (entered-more _ _ _ _ _ _ (search rules) (search rules) (search rules) loop.invariant.2 c.if-waits-j.false))
 

@@ -26,7 +26,7 @@ link-fits-requires : tie.Need-link_fits-requires invariant-loop decreases-loop
 link-fits-requires c κs = search rules
 
 returns : tie.Need-returns-then-not-link_fits invariant-loop decreases-loop
-returns c = all-below-fails _ _ _ (search rules) (sym c.before.link_fits.ensures ∙ not-true c.before.link_fits.result c.if-not-link_fits.true)
+returns c = all-below-fails _ _ _ (search rules) (sym c.before.link_fits.ensures ∙ not-true c.before.link_fits.result c.if-not-link_fits.true-raw)
 
 add_r : tie.Need-overflow_add-r invariant-loop decreases-loop
 add_r c = search rules
@@ -35,7 +35,7 @@ loop-less : tie.Need-loop-r-smaller invariant-loop decreases-loop
 loop-less c = search rules
 
 loop-again : tie.Need-loop-r-preserved invariant-loop decreases-loop
-loop-again c = (search rules, all-below-more _ _ c.before.before.before.loop-r.invariant.1 (sym c.before.link_fits.ensures ∙ not-false c.before.link_fits.result c.if-not-link_fits.false))
+loop-again c = (search rules, all-below-more _ _ c.before.before.before.loop-r.invariant.1 (sym c.before.link_fits.ensures ∙ not-false c.before.link_fits.result c.if-not-link_fits.false-raw))
 
 returns-2 : tie.Need-returns invariant-loop decreases-loop
 returns-2 c = all-below-end _ _ _ c.before.loop-r.invariant.1 (omega arith)

@@ -10,11 +10,11 @@ unfolding points_back implies
 returns c = rw (le-ltb _ _ c.if-n-there.true)
 
 element-copy-out-result : tie.Need-bounds-back-i
-element-copy-out-result c = search rules
+element-copy-out-result c.before = search rules
 
 returns-2 : tie.Need-returns
 unfolding points_back implies
-returns-2 c = rw (lt-ltb _ _ c.before.if1.false)
+returns-2 c = rw (lt-ltb _ _ c.before.before.if-n-there.false)
 
 pub points_back_spec : {M : Type 1} → statement M
 points_back_spec = tie.close (tie.spec returns element-copy-out-result returns-2)

@@ -33,7 +33,7 @@ abbrev Top : Type 0
 Top = tie.At-loop-x invariant-loop decreases-loop
 
 abbrev table : Top → Table
-table p = p.before.before.before.before.before.before.args.t1
+table p = p.before.before.before.before.before.before.args.table
 
 -- its rules fit
 fit : (p : Top) → rules_fit (table p).n (table p).rules ≡ true
@@ -94,7 +94,7 @@ returns-2 c = size-refused _ (λ some few. omega arith)
 
 -- its rules do not fit
 returns-3 : tie.Need-returns-then-not-rules_fit invariant-loop decreases-loop
-returns-3 c = rules-refused _ (sym c.before.rules_fit.ensures ∙ not-true c.before.rules_fit.result c.if-not-rules_fit.true)
+returns-3 c = rules-refused _ (sym c.before.rules_fit.ensures ∙ not-true c.before.rules_fit.result c.if-not-rules_fit.true-raw)
 
 loop-holds : tie.Need-loop-x-init invariant-loop decreases-loop
 loop-holds c = (search rules, shaped _ _ c.before.before.before.before.before.well-formed.0 (search rules), passed_none _ (search rules))
@@ -105,7 +105,7 @@ unfolding at
 returns-4 c =
     let h = c.before in
     let p = top h in
-    alone-refused _ p.loop-x.inv.1 p.loop-x.x (search rules) (sym h.thread_alone.ensures ∙ not-true h.thread_alone.result c.if-not-thread_alone.true)
+    alone-refused _ p.loop-x.inv.1 p.loop-x.x (search rules) (sym h.thread_alone.ensures ∙ not-true h.thread_alone.result c.if-not-thread_alone.true-raw)
 
 -- the thread to which it copies is not ready
 returns-5 : tie.Need-returns-then-not-is_ready invariant-loop decreases-loop
@@ -116,7 +116,7 @@ returns-5 c =
     let k = there.before in
     let p = top (alone-tested k) in
     copy-refused _ p.loop-x.inv.1 p.loop-x.x _ (search rules) k.copies_to-to.ensures there.if-to-n.true
-    (sym tested.is_ready.ensures ∙ not-true tested.is_ready.result c.if-not-is_ready.true)
+    (sym tested.is_ready.ensures ∙ not-true tested.is_ready.result c.if-not-is_ready.true-raw)
 
 enter-senders-requires : tie.Need-enter_senders-requires invariant-loop decreases-loop
 unfolding at
@@ -129,7 +129,7 @@ returns-6 c =
     let e = c.before in
     let p = top (alone-tested (copies (copy_passed e))) in
     queue-refused _ p.loop-x.inv.1 (search rules) p.loop-x.inv.2 (search rules)
-    (e.enter_senders.ensures.no (not-true e.enter_senders.result c.if-not-enter_senders.true))
+    (e.enter_senders.ensures.no (not-true e.enter_senders.result c.if-not-enter_senders.true-raw))
 
 -- thread x passes
 loop-again : tie.Need-loop-x-preserved invariant-loop decreases-loop
@@ -140,7 +140,7 @@ loop-again c =
     let j = copy_passed e in
     let k = copies j in
     let p = top (alone-tested k) in
-    let entered = e.enter_senders.ensures.yes (not-false e.enter_senders.result free.if-not-enter_senders.false) in
+    let entered = e.enter_senders.ensures.yes (not-false e.enter_senders.result free.if-not-enter_senders.false-raw) in
     let more = passed-more _ (search rules) p.loop-x.inv.2 _ _ (search rules) (own k) k.copies_to-to.ensures (copy j) entered in
     (search rules, p.loop-x.inv.1, rw (c.before.target_of.ensures, c.lock_held.ensures) more)
 

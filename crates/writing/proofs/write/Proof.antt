@@ -41,7 +41,7 @@ kind-tested l = l.before.before.before
 
 -- its operation is one of its kind
 fitting : (l : LawfulTested) → let s = spelled (kind-tested l) in fits_kind (entry s).args.item.kind (entry s).args.item.op-1.receive s.spell-space.result ≡ true
-fitting l = let k = kind-tested l in sym k.fits_kind.ensures ∙ not-false k.fits_kind.result l.before.before.if-not-fits_kind.false
+fitting l = let k = kind-tested l in sym k.fits_kind.ensures ∙ not-false k.fits_kind.result l.before.before.if-not-fits_kind.false-raw
 
 -- they are, and the record's length is known
 abbrev Measured : Type 0
@@ -52,7 +52,7 @@ lawful-tested m = m.before.before
 
 -- its bytes are lawful
 lawfully : (m : Measured) → let s = spelled (kind-tested (lawful-tested m)) in lawful (entry s).args.first (front s.spell-space.result) ≡ true
-lawfully m = let l = lawful-tested m in sym l.is_lawful.ensures ∙ not-false l.is_lawful.result m.before.if-not-is_lawful.false
+lawfully m = let l = lawful-tested m in sym l.is_lawful.ensures ∙ not-false l.is_lawful.result m.before.if-not-is_lawful.false-raw
 
 -- the length is that of the record's kind
 long : (m : Measured) → m.record_length-n.result ≡ record_length (entry (spelled (kind-tested (lawful-tested m)))).args.item.kind
@@ -68,14 +68,14 @@ returns : tie.Need-returns-then-not-fits_kind
 returns c =
     let k = c.before in
     let s = spelled k in
-    not_fitting _ _ s.spell-space.ensures (whole s) _ _ (sym k.fits_kind.ensures ∙ not-true k.fits_kind.result c.if-not-fits_kind.true)
+    not_fitting _ _ s.spell-space.ensures (whole s) _ _ (sym k.fits_kind.ensures ∙ not-true k.fits_kind.result c.if-not-fits_kind.true-raw)
 
 -- refused: its bytes are not lawful
 returns-2 : tie.Need-returns-then-not-is_lawful
 returns-2 c =
     let l = c.before in
     let s = spelled (kind-tested l) in
-    not-lawful _ _ s.spell-space.ensures (whole s) _ _ (fitting l) (sym l.is_lawful.ensures ∙ not-true l.is_lawful.result c.if-not-is_lawful.true)
+    not-lawful _ _ s.spell-space.ensures (whole s) _ _ (fitting l) (sym l.is_lawful.ensures ∙ not-true l.is_lawful.result c.if-not-is_lawful.true-raw)
 
 -- refused: there are too few bytes for the record
 returns-3 : tie.Need-returns-then-bytes-n

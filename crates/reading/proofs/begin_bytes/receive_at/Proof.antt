@@ -13,7 +13,7 @@ receive-bit-requires : tie.Need-receive_bit-requires
 receive-bit-requires c κs = search rules
 
 returns : tie.Need-returns-then-not-receive_bit
-returns c = rw (sym c.before.receive_bit.ensures ∙ not-true c.before.receive_bit.result c.if-not-receive_bit.true)
+returns c = rw (sym c.before.receive_bit.ensures ∙ not-true c.before.receive_bit.result c.if-not-receive_bit.true-raw)
 
 shared-slice-read-t5 : tie.Need-bounds-bytes-9
 shared-slice-read-t5 c = search rules
@@ -26,7 +26,7 @@ open-bit-requires c κs = search rules
 
 -- past the first test there is a receive part
 received : (c : tie.Else-not-receive_bit) → receive_bit (parts_byte c.before.before.before.before.args.bytes.now) ≡ true
-received c = sym c.before.receive_bit.ensures ∙ not-false c.before.receive_bit.result c.if-not-receive_bit.false
+received c = sym c.before.receive_bit.ensures ∙ not-false c.before.receive_bit.result c.if-not-receive_bit.false-raw
 
 returns-2 : tie.Need-returns-then-open_bit
 returns-2 c = rw (received c.before.before.before.before, sym c.before.open_bit.ensures ∙ c.if-open_bit.true)

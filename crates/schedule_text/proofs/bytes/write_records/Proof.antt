@@ -55,12 +55,12 @@ inside c = omega (arith, (turn c).loop-i.invariant.2, c.before.before.before.bef
 returns : tie.Need-returns-then-not-put_lawful invariant-loop decreases-loop
 returns c =
     let put = c.before.before.before in
-    sym ((turn put).loop-i.invariant.4 ∙ one-unlawful _ _ _ _ _ (inside put) (answered put false (not-true put.put_lawful.result c.if-not-put_lawful.true)))
+    sym ((turn put).loop-i.invariant.4 ∙ one-unlawful _ _ _ _ _ (inside put) (answered put false (not-true put.put_lawful.result c.if-not-put_lawful.true-raw)))
 
 loop-again : tie.Need-loop-i-preserved invariant-loop decreases-loop
 loop-again c =
     let put = c.before.before.before in
-    (search rules, search rules, (turn put).loop-i.invariant.2, (turn put).loop-i.invariant.3, (turn put).loop-i.invariant.4 ∙ one-lawful _ _ _ _ _ (inside put) (answered put true (not-false put.put_lawful.result c.if-not-put_lawful.false)))
+    (search rules, search rules, (turn put).loop-i.invariant.2, (turn put).loop-i.invariant.3, (turn put).loop-i.invariant.4 ∙ one-lawful _ _ _ _ _ (inside put) (answered put true (not-false put.put_lawful.result c.if-not-put_lawful.false-raw)))
 
 returns-2 : tie.Need-returns invariant-loop decreases-loop
 returns-2 c =
