@@ -18,7 +18,7 @@ abbrev decreases-loop : tie.decreases-loop-k
 decreases-loop senders targets s t rank seen₀ k₀ seen k = length senders - k
 
 -- place k is tested: the way back to the top of the loop
-abbrev top : tie.After-is-of invariant-loop decreases-loop → tie.At-loop-k invariant-loop decreases-loop
+abbrev top : tie.After-is_of invariant-loop decreases-loop → tie.At-loop-k invariant-loop decreases-loop
 top tested = tested.before.before
 
 loop-holds : tie.Need-loop-k-init invariant-loop decreases-loop

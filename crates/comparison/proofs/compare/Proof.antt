@@ -26,7 +26,7 @@ returns-2 c = bad-receives _ _ (sends-pass c.before.before) (sym c.before.is_goo
 compare-good-requires : tie.Need-compare_good-requires
 compare-good-requires c κs =
     let start = c.before.before.before.before in
-    (good-read start.args.sends (entries-whole start.args.sends _ start.well-formed.0) (sends-pass c.before.before), good-read start.args.receives (entries-whole start.args.receives _ start.well-formed.1.0) (receives-pass c))
+    (good-read start.args.sends (entries-whole start.args.sends _ start.well_formed.0) (sends-pass c.before.before), good-read start.args.receives (entries-whole start.args.receives _ start.well_formed.1.0) (receives-pass c))
 
 -- both are good
 returns-3 : tie.Need-returns

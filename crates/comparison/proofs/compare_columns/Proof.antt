@@ -17,10 +17,10 @@ Receives = tie.After-first_receive-j
 
 -- columns are not above 512
 sends-few : (f : Sends) → let start = f.before.before.before.before.before in length start.args.senders.now ≤ 512
-sends-few f = let start = f.before.before.before.before.before in column-few start.args.sends _ _ (entries-whole start.args.sends _ start.well-formed.0) start.requires.0 start.requires.1.1.0
+sends-few f = let start = f.before.before.before.before.before in column-few start.args.sends _ _ (entries-whole start.args.sends _ start.well_formed.0) start.requires.0 start.requires.1.1.0
 
 receives-few : (f : Sends) → let start = f.before.before.before.before.before in length start.args.sources.now ≤ 512
-receives-few f = let start = f.before.before.before.before.before in column-few start.args.receives _ _ (entries-whole start.args.receives _ start.well-formed.1.0) start.requires.1.0 start.requires.1.1.1
+receives-few f = let start = f.before.before.before.before.before in column-few start.args.receives _ _ (entries-whole start.args.receives _ start.well_formed.1.0) start.requires.1.0 start.requires.1.1.1
 
 -- ---- the needs
 cast-t11 : tie.Need-overflow_cast-result

@@ -12,7 +12,7 @@ Sent = tie.After-empty_column-to
 abbrev Received : Type 0
 Received = tie.After-empty_column-receiver
 
-abbrev sent-read : Received → tie.After-read-columns
+abbrev sent-read : Received → tie.After-read_columns
 sent-read r = r.before.before.before.before.before.before
 
 abbrev sent : Received → Sent

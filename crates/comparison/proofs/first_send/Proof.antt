@@ -31,7 +31,7 @@ top f = f.before.before
 
 -- both messages are compared, and this decides
 abbrev Compared : Type 0
-Compared = tie.After-same-message invariant-loop decreases-loop
+Compared = tie.After-same_message invariant-loop decreases-loop
 
 decided : (m : Compared) → let p = top m.before.before.before.before in let args = p.before.before.before.before.before.args in
     send_differs (entries_of args.sends) (entries_of args.receives) p.loop-i.i ≡ not m.same_message.result
@@ -47,8 +47,8 @@ loop-holds c =
     let start = c.before.before.before.before in
     let args = start.args in
     let pre = start.requires in
-    let whole = entries-whole args.sends _ start.well-formed.0 in
-    let all = entries-whole args.receives _ start.well-formed.1.0 in
+    let whole = entries-whole args.sends _ start.well_formed.0 in
+    let all = entries-whole args.receives _ start.well_formed.1.0 in
     let sent = pre.1.1.0 in
     let received = pre.1.1.1 in
     (λ k l. absurd (omega arith), whole, all, search rules, column-few args.sends _ _ whole pre.0 sent, sent.many ∙ sym sent.as_many, column-few args.receives _ _ all pre.1.0 received, received.many ∙ sym received.as_many)

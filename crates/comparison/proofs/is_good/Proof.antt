@@ -22,7 +22,7 @@ returns : tie.Need-returns-then-log-gt-LOG_ROOM invariant-loop decreases-loop
 returns c = too_long _ (search rules)
 
 loop-holds : tie.Need-loop-i-init invariant-loop decreases-loop
-loop-holds c = (search rules, entries-whole c.before.args.log _ c.before.well-formed.0, λ k l. absurd (omega arith))
+loop-holds c = (search rules, entries-whole c.before.args.log _ c.before.well_formed.0, λ k l. absurd (omega arith))
 
 returns-2 : tie.Need-returns-then-entry-gt-WORD_LIMIT invariant-loop decreases-loop
 returns-2 c =

@@ -16,7 +16,7 @@ abbrev decreases-loop : tie.decreases-loop-i
 decreases-loop senders₀ targets₀ log len i₀ senders targets i = len - i
 
 loop-holds : tie.Need-loop-i-init invariant-loop decreases-loop
-loop-holds c = (search rules, entries-whole c.args.log _ c.well-formed.0, search rules, search rules, λ k l. absurd (omega arith))
+loop-holds c = (search rules, entries-whole c.args.log _ c.well_formed.0, search rules, search rules, λ k l. absurd (omega arith))
 
 loop-again : tie.Need-loop-i-preserved invariant-loop decreases-loop
 loop-again c =

@@ -21,7 +21,7 @@ returns : tie.Need-returns-then-a-b invariant-loop decreases-loop
 returns c = counts_differ _ _ c.if-a-b.true
 
 loop-holds : tie.Need-loop-k-init invariant-loop decreases-loop
-loop-holds c = (search rules, words-whole c.before.args.a _ c.before.well-formed.0, words-whole c.before.args.b _ c.before.well-formed.1.0, same-from-first _ _ c.if-a-b.false)
+loop-holds c = (search rules, words-whole c.before.args.a _ c.before.well_formed.0, words-whole c.before.args.b _ c.before.well_formed.1.0, same-from-first _ _ c.if-a-b.false)
 
 -- other words
 returns-2 : tie.Need-returns-then-a-k invariant-loop decreases-loop

@@ -310,7 +310,7 @@ module _ (t : ℕ) where
 
   -- it sets some fields of both
   abbrev Changed : Type 0
-  Changed = try-step-lts.After-change-own (claims t) (try-step-at t) try-step.Post
+  Changed = try-step-lts.After-change_own (claims t) (try-step-at t) try-step.Post
 
   abbrev changed-on : Changed → GoesOn
   changed-on d = d.before.before.before.before.before

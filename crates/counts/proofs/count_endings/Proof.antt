@@ -5,9 +5,9 @@ use Rattle.model.specs.Lists.{up_to}
 use Rattle.model.specs.Refusals.{count_refusal}
 use Rattle.formed.proofs.Shape.{shaped}
 use Rattle.unchecked.specs.Runnable.{Checked}
-use Rattle.counts-1.proofs.Refused.{count_fits, refused-count, accepted-count}
-use Rattle.counts-1.proofs.count_endings.Statement.{statement}
-use Rattle.counts-1.proofs.count_endings.Tie as tie
+use Rattle.counts.proofs.Refused.{count_fits, refused-count, accepted-count}
+use Rattle.counts.proofs.count_endings.Statement.{statement}
+use Rattle.counts.proofs.count_endings.Tie as tie
 
 -- ---- the places of the code from which the needs below speak; each leads back to the one before
 -- no row refuses
@@ -23,7 +23,7 @@ accepted f = sym f.before.count_refusal-refusal.ensures ∙ f.if-refusal-ne0.fal
 checked : (f : Fits) → Checked (entry f).args.table
 checked f =
     let (few, formed, long) = count_fits _ _ (accepted f) in
-    record { formed = formed; shaped = shaped (entry f).args.table _ (entry f).well-formed.0 (omega arith) }
+    record { formed = formed; shaped = shaped (entry f).args.table _ (entry f).well_formed.0 (omega arith) }
 
 -- the first four threads are known
 abbrev Known : Type 0

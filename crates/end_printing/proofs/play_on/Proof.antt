@@ -66,7 +66,7 @@ words p = let l = top (turn p) in p.play-played.last.1.0 ++ drop (size l) l.loop
 
 -- how many bytes are left
 abbrev left : Played → ℕ
-left p = let l = top (turn p) in l.loop-supply.supply.end - (l.loop-supply.start + ((to p).place - l.loop-supply.playback-1.place))
+left p = let l = top (turn p) in l.loop-supply.supply.end - (l.loop-supply.start + ((to p).place - l.loop-supply.playback.place))
 
 -- the store is still the array's first words
 stored : (p : Played) → Stored (to p) (size (top (turn p))) (words p)
@@ -88,7 +88,7 @@ abbrev bad-played : Bad → Played
 bad-played b = b.before.before.before.before
 
 -- its end is told
-abbrev bad : tie.After-end-of invariant-loop decreases-loop → Bad
+abbrev bad : tie.After-end_of invariant-loop decreases-loop → Bad
 bad e = e.before.before.before
 
 -- no unlawful record comes next
@@ -113,7 +113,7 @@ abbrev read : Dry → Read
 read d = d.before.before.before.before
 
 -- so as many bytes are delivered as before
-none_more : (d : Dry) → (top (turn (played (fine (read d))))).loop-supply.supply.delivered ≡ (read d).supplied-supply.result.delivered
+none_more : (d : Dry) → (top (turn (played (fine (read d))))).loop-supply.supply.delivered ≡ (read d).supplied.result.delivered
 none_more d = nothing_read _ _ _ _ (read d).supplied-supply.ensures.1 d.if-supply-left.taken
 
 -- the end is told

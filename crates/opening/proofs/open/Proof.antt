@@ -11,7 +11,7 @@ use Rattle.opening.proofs.open.Tie as tie
 -- ---- the places of the code from which the needs below speak; each leads back to the one before
 -- the table record is tested
 abbrev Tested : Type 0
-Tested = tie.After-is-lawful
+Tested = tie.After-is_lawful
 
 abbrev entry : Tested → tie.Start
 entry r = r.before.before

@@ -14,7 +14,7 @@ go-idle-requires c κs = search rules
 returns : tie.Need-returns-then-not-flags
 returns c =
     let a = c.before.before.before.before.args in
-    settled _ _ _ _ (look-ended a.x a.own a.other (not-true a.own.flags-1.ipc c.before.if-not-flags.true)) (c.go_idle.ensures a.x)
+    settled _ _ _ _ (look-ended a.x a.own a.other (not-true a.own.flags.ipc c.before.if-not-flags.true)) (c.go_idle.ensures a.x)
 
 end-by-requires : tie.Need-end_by-requires
 end-by-requires c κs = search rules
@@ -22,7 +22,7 @@ end-by-requires c κs = search rules
 returns-2 : tie.Need-returns-then-flags
 returns-2 c =
     let a = c.before.before.before.before.before.args in
-    settled _ _ _ _ (look-cancelled a.x a.own a.other (not-false a.own.flags-1.ipc c.before.before.if-not-flags.false) c.before.if-flags.true) (c.end_by.ensures a.x _ refl)
+    settled _ _ _ _ (look-cancelled a.x a.own a.other (not-false a.own.flags.ipc c.before.before.if-not-flags.false) c.before.if-flags.true) (c.end_by.ensures a.x _ refl)
 
 look-alone-requires : tie.Need-look_alone-requires
 unfolding found_as

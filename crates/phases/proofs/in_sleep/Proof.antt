@@ -13,7 +13,7 @@ try-again-requires c κs = search rules
 returns : tie.Need-returns-then-not-flags
 returns c =
     let a = c.before.before.before.before.args in
-    settled _ _ _ _ (sleep_woken a.x a.own a.other (not-true a.own.flags-1.poll c.before.if-not-flags.true)) (c.try_again.ensures a.x)
+    settled _ _ _ _ (sleep_woken a.x a.own a.other (not-true a.own.flags.poll c.before.if-not-flags.true)) (c.try_again.ensures a.x)
 
 try-again-requires-2 : tie.Need-try_again-requires-then-flags
 try-again-requires-2 c κs = search rules
@@ -21,7 +21,7 @@ try-again-requires-2 c κs = search rules
 returns-2 : tie.Need-returns-then-flags
 returns-2 c =
     let a = c.before.before.before.before.before.args in
-    settled _ _ _ _ (sleep-marked a.x a.own a.other (not-false a.own.flags-1.poll c.before.before.if-not-flags.false) c.before.if-flags.true) (c.try_again-then-flags.ensures a.x)
+    settled _ _ _ _ (sleep-marked a.x a.own a.other (not-false a.own.flags.poll c.before.before.if-not-flags.false) c.before.if-flags.true) (c.try_again-then-flags.ensures a.x)
 
 try-again-requires-3 : tie.Need-try_again-requires-then-own-eq0
 try-again-requires-3 c κs = search rules
@@ -29,7 +29,7 @@ try-again-requires-3 c κs = search rules
 returns-3 : tie.Need-returns-then-own-eq0
 returns-3 c =
     let a = c.before.before.before.before.before.before.before.args in
-    settled _ _ _ _ (sleep-late a.x a.own a.other (not-false a.own.flags-1.poll c.before.before.before.before.if-not-flags.false) c.before.before.before.if-flags.false c.before.if-own-eq0.true) (c.try_again-then-own-eq0.ensures a.x)
+    settled _ _ _ _ (sleep-late a.x a.own a.other (not-false a.own.flags.poll c.before.before.before.before.if-not-flags.false) c.before.before.before.if-flags.false c.before.if-own-eq0.true) (c.try_again-then-own-eq0.ensures a.x)
 
 stay-with-requires : tie.Need-stay_with-requires
 stay-with-requires c κs = search rules
@@ -37,7 +37,7 @@ stay-with-requires c κs = search rules
 returns-4 : tie.Need-returns
 returns-4 c =
     let a = c.before.before.before.before.before.before.before.args in
-    settled _ _ _ _ (sleep-stays a.x a.own a.other (not-false a.own.flags-1.poll c.before.before.before.before.if-not-flags.false) c.before.before.before.if-flags.false c.before.if-own-eq0.false) (c.stay_with.ensures a.x asleep refl)
+    settled _ _ _ _ (sleep-stays a.x a.own a.other (not-false a.own.flags.poll c.before.before.before.before.if-not-flags.false) c.before.before.before.if-flags.false c.before.if-own-eq0.false) (c.stay_with.ensures a.x asleep refl)
 
 pub in_sleep_spec : {M : Type 1} → statement M
 in_sleep_spec =

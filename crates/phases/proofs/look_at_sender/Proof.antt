@@ -12,7 +12,7 @@ use Rattle.phases.proofs.look_at_sender.Tie as tie
 -- ---- the places of the code from which the needs below speak; each leads back to the one before
 -- it is known whether a limit is over
 abbrev Timed : Type 0
-Timed = tie.After-is-overdue
+Timed = tie.After-is_overdue
 
 abbrev entry : Timed → tie.Start
 entry t = t.before

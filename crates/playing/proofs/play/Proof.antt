@@ -180,13 +180,13 @@ ends f = f.before.before.before.before.before
 
 -- nothing ends with it: the other thread is changed in the table
 abbrev Half : Type 0
-Half = tie.After-change-other invariant-loop2 decreases-loop2 invariant-loop decreases-loop
+Half = tie.After-change_other invariant-loop2 decreases-loop2 invariant-loop decreases-loop
 
 abbrev on : Half → Stepped
 on h = h.before.before.before.before.before
 
 -- and so is its own
-abbrev half : tie.After-change-own invariant-loop2 decreases-loop2 invariant-loop decreases-loop → Half
+abbrev half : tie.After-change_own invariant-loop2 decreases-loop2 invariant-loop decreases-loop → Half
 half f = f.before
 
 -- a cancel
@@ -197,7 +197,7 @@ abbrev cancelling : Cancels → Below
 cancelling k = k.before.before.before
 
 -- of a thread whose lock is free: it is marked if its operation runs
-abbrev cancels : tie.After-mark-running invariant-loop2 decreases-loop2 invariant-loop decreases-loop → Cancels
+abbrev cancels : tie.After-mark_running invariant-loop2 decreases-loop2 invariant-loop decreases-loop → Cancels
 cancels f = f.before.before.before
 
 -- a begin: no tick, no step and no cancel
@@ -209,7 +209,7 @@ beginning e = e.before.before.before
 
 -- its rows are tested
 abbrev Asked : Type 0
-Asked = tie.After-begin-refusal invariant-loop2 decreases-loop2 invariant-loop decreases-loop
+Asked = tie.After-begin_refusal invariant-loop2 decreases-loop2 invariant-loop decreases-loop
 
 abbrev asks : Asked → Begin
 asks a = a.before.before
@@ -254,13 +254,13 @@ joined-there j = let g = begins j in joined-in_array _ _ _ (accepted g) _ (sized
 
 -- the thread is in that queue
 abbrev Joined : Type 0
-Joined = tie.After-join-queue invariant-loop2 decreases-loop2 invariant-loop decreases-loop
+Joined = tie.After-join_queue invariant-loop2 decreases-loop2 invariant-loop decreases-loop
 
 abbrev joins : Joined → Joins
 joins q = q.before.before
 
 -- and has begun
-abbrev joined : tie.After-begin-own invariant-loop2 decreases-loop2 invariant-loop decreases-loop → Joined
+abbrev joined : tie.After-begin_own invariant-loop2 decreases-loop2 invariant-loop decreases-loop → Joined
 joined f = f.before.before
 
 -- the loop is left: no lawful record comes next

@@ -22,7 +22,7 @@ unfolding find_sender senders
 returns c =
     let h = c.before.before.before.before.args.h in
     let found = c.before.before.before.search-place in
-    let whole : length h.queue-1.items ≡ 32 = search rules in
+    let whole : length h.queue.items ≡ 32 = search rules in
     let long = senders-length h whole (search rules) in
     let end : length (senders h) ≤ search_place h = omega (arith, c.if-n-place.true, found.ensures) in
     (rw (← found.ensures) (read_past _ _ _ _ c.if-n-place.true), sym (places-all h end ∙ long))
@@ -43,10 +43,10 @@ returns-2 c =
     let h = c.before.before.before.before.before.args.h in
     let found = c.before.before.before.before.search-place in
     let here = c.before.if-n-place.false in
-    let whole : length h.queue-1.items ≡ 32 = search rules in
+    let whole : length h.queue.items ≡ 32 = search rules in
     let long = senders-length h whole (search rules) in
     let inside : search_place h < length (senders h) = omega (arith, here, found.ensures) in
-    (rw (← found.ensures) (read-inside h.queue-1.items h.queue-1.len found.result _ here (omega arith)), rw (places-to h inside) (omega arith))
+    (rw (← found.ensures) (read-inside h.queue.items h.queue.len found.result _ here (omega arith)), rw (places-to h inside) (omega arith))
 
 pub first_acceptable_spec : {M : Type 1} → statement M
 first_acceptable_spec =

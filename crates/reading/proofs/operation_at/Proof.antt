@@ -30,14 +30,14 @@ with-set o = must_set _ (entry o).requires.0 o.if-bytes-eq-BEGIN.false
 -- ---- the needs
 returns : tie.Need-returns-then-bytes-eq-BEGIN
 unfolding operation_by operation_of
-returns c = rw (c.before.before.before.IsSend-at.ensures, c.receive_at-receive.ensures, eq-eqb _ _ c.before.if-bytes-eq-BEGIN.true)
+returns c = rw (c.before.before.before.send_at-send.ensures, c.receive_at-receive.ensures, eq-eqb _ _ c.before.if-bytes-eq-BEGIN.true)
 
 set-at-requires : tie.Need-set_at-receive-requires
 set-at-requires c κs = omega (arith, (entry c).requires.1, record_set _ (with-set c))
 
 returns-2 : tie.Need-returns
 unfolding operation_by set_operation_of
-returns-2 c = let o = c.before in rw (o.before.before.IsSend-at.ensures, c.set_at-receive.ensures, ne_eqb _ _ o.if-bytes-eq-BEGIN.false, eq-eqb _ _ (with-set o))
+returns-2 c = let o = c.before in rw (o.before.before.send_at-send.ensures, c.set_at-receive.ensures, ne_eqb _ _ o.if-bytes-eq-BEGIN.false, eq-eqb _ _ (with-set o))
 
 pub operation_at_spec : {M : Type 1} → statement M
 operation_at_spec =

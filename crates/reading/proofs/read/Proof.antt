@@ -23,7 +23,7 @@ lawfully l = sym l.before.is_lawful.ensures ∙ not-false l.before.is_lawful.res
 
 -- it is known whether it is a begin
 abbrev Told : Type 0
-Told = tie.After-is-begin
+Told = tie.After-is_begin
 
 abbrev known : Told → Lawful
 known t = t.before.before.before

@@ -15,7 +15,7 @@ use Rattle.record_text.proofs.put_record.Tie as tie
 
 -- by its type the record is in range, so its line is short
 short : (c : tie.Start) → length (record_line c.args.item) ≤ longest_line
-short c = line-short _ (record_typed _ _ c.well-formed.1.1.0)
+short c = line-short _ (record_typed _ _ c.well_formed.1.1.0)
 
 returns : tie.Need-returns-then-kind-eq-TABLE
 unfolding ascii up_to

@@ -22,7 +22,7 @@ returns : tie.Need-returns-then-last-t invariant-loop decreases-loop
 returns c = counted-all _ _ c.before.before.loop-t.invariant (inl c.if-last-t.true)
 
 element-copy-out-counts : tie.Need-bounds-counts-i invariant-loop decreases-loop
-element-copy-out-counts c.before = search rules
+element-copy-out-counts c = search rules
 
 add-counts : tie.Need-overflow_add-counts invariant-loop decreases-loop
 add-counts c = let turn = c.before.before.before.before in omega (arith, next-count _ _ turn.loop-t.invariant (search rules), turn.before.requires.1.room turn.loop-t.t (search rules))

@@ -18,7 +18,7 @@ abbrev decreases-loop : tie.decreases-loop-k
 decreases-loop n s rules counts₀ len k₀ counts k = len - k
 
 loop-holds : tie.Need-loop-k-init invariant-loop decreases-loop
-loop-holds c = (search rules, rows_whole c.args.rules _ c.well-formed.1.0, covers-none _ c.args.rules.rows _ (search rules))
+loop-holds c = (search rules, rows_whole c.args.rules _ c.well_formed.1.0, covers-none _ c.args.rules.rows _ (search rules))
 
 count-row-requires : tie.Need-count_row-requires invariant-loop decreases-loop
 count-row-requires c κs = let turn = c.before.before.before in (search rules, covers_room _ turn.before.args.rules.rows _ turn.loop-k.k turn.loop-k.invariant.2 (search rules) (search rules))

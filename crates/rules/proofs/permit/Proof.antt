@@ -17,7 +17,7 @@ abbrev decreases-loop : tie.decreases-loop-k
 decreases-loop s r rules len k₀ k = len - k
 
 -- a row is tested: the way back to the top of the loop
-abbrev top : tie.After-holds-pair invariant-loop decreases-loop → tie.At-loop-k invariant-loop decreases-loop
+abbrev top : tie.After-holds_pair invariant-loop decreases-loop → tie.At-loop-k invariant-loop decreases-loop
 top tested = tested.before.before.before
 
 -- no rules
@@ -25,7 +25,7 @@ returns : tie.Need-returns-then-len-eq0 invariant-loop decreases-loop
 returns c = sym (permits-none _ _ _ c.if-len-eq0.true)
 
 loop-holds : tie.Need-loop-k-init invariant-loop decreases-loop
-loop-holds c = (search rules, rows_whole c.before.args.rules _ c.before.well-formed.0, unfold says_yes in refl)
+loop-holds c = (search rules, rows_whole c.before.args.rules _ c.before.well_formed.0, unfold says_yes in refl)
 
 -- a row says yes
 returns-2 : tie.Need-returns-then-holds_pair-row invariant-loop decreases-loop

@@ -14,7 +14,7 @@ own-there s = begin-place _ _ _ s.requires
 
 -- thread x's words in the store are zero
 abbrev Zeroed : Type 0
-Zeroed = tie.After-zero-thread
+Zeroed = tie.After-zero_thread
 
 abbrev entry : Zeroed → tie.Start
 entry z = z.before.before.before
@@ -32,7 +32,7 @@ joined-there j = joined-in_array _ _ _ (entry (zeroed j)).requires _ refl _ j.jo
 
 -- its queue is joined
 abbrev Joined : Type 0
-Joined = tie.After-join-queue
+Joined = tie.After-join_queue
 
 abbrev joins : Joined → Joins
 joins q = q.before.before

@@ -14,7 +14,7 @@ use Rattle.unchecked.proofs.step.Tie as tie
 -- ---- the places of the code from which the needs below speak; each leads back to the one before
 -- at the entry the table's arrays are whole
 shaped : (s : tie.Start) → Shaped s.args.table
-shaped s = accepted-shaped _ _ s.requires _ s.well-formed.0
+shaped s = accepted-shaped _ _ s.requires _ s.well_formed.0
 
 -- and thread x has a place in the array
 own-there : (s : tie.Start) → s.args.x < 32

@@ -14,7 +14,7 @@ abbrev decreases-loop : tie.decreases-loop-k
 decreases-loop n owners r i owner₀ k₀ owner k = n - k
 
 element-copy-out-owner : tie.Need-bounds-owners-i invariant-loop decreases-loop
-element-copy-out-owner c.before = search rules
+element-copy-out-owner c = search rules
 
 loop-holds : tie.Need-loop-k-init invariant-loop decreases-loop
 loop-holds c = (search rules, followed_none _ _ _ (search rules))
@@ -29,7 +29,7 @@ cast-j : tie.Need-overflow_cast-j invariant-loop decreases-loop
 cast-j c = search rules
 
 element-copy-out-owner-2 : tie.Need-bounds-owners-j invariant-loop decreases-loop
-element-copy-out-owner-2 c.before = search rules
+element-copy-out-owner-2 c = search rules
 
 add-k : tie.Need-overflow_add-k invariant-loop decreases-loop
 add-k c = search rules

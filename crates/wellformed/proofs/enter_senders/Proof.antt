@@ -33,7 +33,7 @@ cast-j : tie.Need-overflow_cast-j invariant-loop decreases-loop
 cast-j c = search rules
 
 element-copy-out-if2 : tie.Need-bounds-waits-j invariant-loop decreases-loop
-element-copy-out-if2 c.before = search rules
+element-copy-out-if2 c = search rules
 
 returns-2 : tie.Need-returns-then-waits-j invariant-loop decreases-loop
 returns-2 c = let loop = c.before.before.before.before.before.loop-i in

@@ -5,19 +5,19 @@ use Rattle.wellformed.proofs.link_fits.Statement.{statement}
 use Rattle.wellformed.proofs.link_fits.Tie as tie
 
 element-copy-out-result : tie.Need-bounds-waits-i
-element-copy-out-result c.before = search rules
+element-copy-out-result c = search rules
 
 element-copy-out-result-2 : tie.Need-bounds-targets-i
-element-copy-out-result-2 c.before = search rules
+element-copy-out-result-2 c = search rules
 
 element-copy-out-points-back : tie.Need-bounds-owners-i
-element-copy-out-points-back c.before = search rules
+element-copy-out-points-back c = search rules
 
 points-back-requires : tie.Need-points_back-requires
 points-back-requires c κs = search rules
 
 element-copy-out-points-back-2 : tie.Need-bounds-held-i
-element-copy-out-points-back-2 c.before = search rules
+element-copy-out-points-back-2 c = search rules
 
 points-back-requires-2 : tie.Need-points_back-requires-2
 points-back-requires-2 c κs = search rules

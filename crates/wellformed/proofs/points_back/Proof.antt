@@ -10,7 +10,7 @@ unfolding points_back implies
 returns c = rw (le-ltb _ _ c.if-n-there.true)
 
 element-copy-out-result : tie.Need-bounds-back-i
-element-copy-out-result c.before = search rules
+element-copy-out-result c = search rules
 
 returns-2 : tie.Need-returns
 unfolding points_back implies

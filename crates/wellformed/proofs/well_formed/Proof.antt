@@ -41,7 +41,7 @@ fit p = let r = p.before in sym r.before.rules_fit.ensures ∙ not-false r.befor
 
 -- thread x is tested by itself
 abbrev AloneTested : Type 0
-AloneTested = tie.After-thread-alone invariant-loop decreases-loop
+AloneTested = tie.After-thread_alone invariant-loop decreases-loop
 
 abbrev top : AloneTested → Top
 top h = h.before.before.before
@@ -78,7 +78,7 @@ copy j l = elim j.if-to-n.came [
 
 -- the waiting senders of thread x are entered, or not all are free
 abbrev QueueTested : Type 0
-QueueTested = tie.After-enter-senders invariant-loop decreases-loop
+QueueTested = tie.After-enter_senders invariant-loop decreases-loop
 
 abbrev copy_passed : QueueTested → CopyPassed
 copy_passed e = e.before.before
@@ -97,7 +97,7 @@ returns-3 : tie.Need-returns-then-not-rules_fit invariant-loop decreases-loop
 returns-3 c = rules-refused _ (sym c.before.rules_fit.ensures ∙ not-true c.before.rules_fit.result c.if-not-rules_fit.true-raw)
 
 loop-holds : tie.Need-loop-x-init invariant-loop decreases-loop
-loop-holds c = (search rules, shaped _ _ c.before.before.before.before.before.well-formed.0 (search rules), passed_none _ (search rules))
+loop-holds c = (search rules, shaped _ _ c.before.before.before.before.before.well_formed.0 (search rules), passed_none _ (search rules))
 
 -- thread x is not well-formed by itself
 returns-4 : tie.Need-returns-then-not-thread_alone invariant-loop decreases-loop

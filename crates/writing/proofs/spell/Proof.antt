@@ -14,8 +14,8 @@ use Rattle.writing.proofs.spell.Statement.{statement}
 use Rattle.writing.proofs.spell.Tie as tie
 
 -- the bytes up to the set, by the results of what was called for three of them
-fields-spelled : (r : Record) (parts partner time : ℕ) → parts ≡ parts_of r.op → partner ≡ partner_of r.op-1.receive → time ≡ receive_time r.op-1.receive
-    → 0x4C ∷ 0x34 ∷ r.kind ∷ r.thread ∷ parts ∷ r.op-1.send-1.target ∷ partner ∷ r.op-1.send-1.count ∷ r.op-1.send-1.time ∷ time ∷ bytes_of r.op-1.send-1.words ++ replicate 4 0 ≡ up_to_set r ++ replicate 4 0
+fields-spelled : (r : Record) (parts partner time : ℕ) → parts ≡ parts_of r.op → partner ≡ partner_of r.op.receive → time ≡ receive_time r.op.receive
+    → 0x4C ∷ 0x34 ∷ r.kind ∷ r.thread ∷ parts ∷ r.op.send.target ∷ partner ∷ r.op.send.count ∷ r.op.send.time ∷ time ∷ bytes_of r.op.send.words ++ replicate 4 0 ≡ up_to_set r ++ replicate 4 0
 fields-spelled r parts partner time e f g = rw (e, f, g) refl
 
 -- ---- the places of the code from which the need below speaks; each leads back to the one before
@@ -25,14 +25,14 @@ set-place s = let eight : length s.args.item.op.send.words ≡ 8 = search rules 
 
 -- all fields are put before the words
 abbrev Fields : Type 0
-Fields = tie.After-receive-time
+Fields = tie.After-receive_time
 
 abbrev entry : Fields → tie.Start
 entry f = f.before.before.before.before.before.before.before
 
 -- the words are put
 abbrev Words : Type 0
-Words = tie.After-put-words
+Words = tie.After-put_words
 
 abbrev fields : Words → Fields
 fields w = w.before.before

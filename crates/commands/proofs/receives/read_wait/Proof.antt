@@ -12,11 +12,11 @@ use Rattle.commands.proofs.receives.read_wait.Statement.{statement}
 use Rattle.commands.proofs.receives.read_wait.Tie as tie
 
 -- once a word was compared: the way back to where it was found
-abbrev found : tie.After-is-word → tie.After-next_word-span
+abbrev found : tie.After-is_word → tie.After-next_word-span
 found c = c.before.before.before
 
 -- once it was compared again: the way back to the first time
-abbrev first : tie.After-is_word-2 → tie.After-is-word
+abbrev first : tie.After-is_word-2 → tie.After-is_word
 first c = c.before.before.before
 
 -- the word `any`

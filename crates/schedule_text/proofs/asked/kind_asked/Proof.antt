@@ -10,7 +10,7 @@ use Rattle.schedule_text.proofs.asked.kind_asked.Statement.{statement}
 use Rattle.schedule_text.proofs.asked.kind_asked.Tie as tie
 
 -- the test is that of the definition
-tested : (c : tie.After-names-set) → let a = c.before.args in (eqb a.row begin_kind && names_set a.op.receive) ≡ (eqb a.row begin_kind && c.names_set.result)
+tested : (c : tie.After-names_set) → let a = c.before.args in (eqb a.row begin_kind && names_set a.op.receive) ≡ (eqb a.row begin_kind && c.names_set.result)
 tested c = ap (λ (b : Bool). eqb c.before.args.row begin_kind && b) (sym c.names_set.ensures)
 
 returns : tie.Need-returns-then-row-names_set

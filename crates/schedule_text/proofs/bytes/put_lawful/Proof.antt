@@ -8,7 +8,7 @@ returns : tie.Need-returns-in-Refused
 returns c =
     let written = c.before.before.before in
     let entry = written.before.before.before in
-    refused-unlawful written.write-answer.ensures c.in-Refused.is (record_typed entry.args.item _ entry.well-formed.1.0).op.eight entry.requires
+    refused-unlawful written.write-answer.ensures c.in-Refused.is (record_typed entry.args.item _ entry.well_formed.1.0).op.eight entry.requires
 
 returns-2 : tie.Need-returns
 returns-2 c = accepted-lawful c.before.before.before.write-answer.ensures c.in_default.in_default-own.keys2

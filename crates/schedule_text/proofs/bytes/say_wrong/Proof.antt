@@ -1,5 +1,5 @@
 use borrow.Author.Rules.{rules}
-use Rattle.text-1.proofs.Writing.{written-counts}
+use Rattle.text.proofs.Writing.{written-counts}
 use Rattle.schedule_text.proofs.bytes.say_wrong.Statement.{statement}
 use Rattle.schedule_text.proofs.bytes.say_wrong.Tie as tie
 

@@ -35,21 +35,21 @@ record-at-requires c κs =
     (omega (arith, test.before.loop.invariant.2, test.loop-test.true), start.requires.0)
 
 -- the turn and the entry, once a record is written
-abbrev turn : tie.After-put-lawful invariant-loop decreases-loop → tie.At-loop-i invariant-loop decreases-loop
+abbrev turn : tie.After-put_lawful invariant-loop decreases-loop → tie.At-loop-i invariant-loop decreases-loop
 turn c = c.before.before.before.before.before.before
 
-abbrev entry : tie.After-put-lawful invariant-loop decreases-loop → tie.Start invariant-loop decreases-loop
+abbrev entry : tie.After-put_lawful invariant-loop decreases-loop → tie.Start invariant-loop decreases-loop
 entry c = (turn c).before.before.before.before.before.before
 
 -- what is answered is whether it is lawful
-answered : (c : tie.After-put-lawful invariant-loop decreases-loop) → (b : Bool) → c.put_lawful.result ≡ b
+answered : (c : tie.After-put_lawful invariant-loop decreases-loop) → (b : Bool) → c.put_lawful.result ≡ b
     → lawful_record ((entry c).args.first && eqb (turn c).loop-i.i 0)
     (record_for (entry c).args.row (entry c).args.op (get_or (threads_of (entry c).args.row (entry c).args.numbers.now) (turn c).loop-i.i 0))
     ≡ b
 answered c b e = sym (c.put_lawful.ensures ∙ ap (lawful_record _) c.before.before.record_at-item.ensures) ∙ e
 
 -- there is such a record
-inside : (c : tie.After-put-lawful invariant-loop decreases-loop) → (turn c).loop-i.i < length (threads_of (entry c).args.row (entry c).args.numbers.now)
+inside : (c : tie.After-put_lawful invariant-loop decreases-loop) → (turn c).loop-i.i < length (threads_of (entry c).args.row (entry c).args.numbers.now)
 inside c = omega (arith, (turn c).loop-i.invariant.2, c.before.before.before.before.before.loop-test.true)
 
 returns : tie.Need-returns-then-not-put_lawful invariant-loop decreases-loop

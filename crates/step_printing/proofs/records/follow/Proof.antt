@@ -6,7 +6,7 @@ use Rattle.step_printing.proofs.records.follow.Statement.{statement}
 use Rattle.step_printing.proofs.records.follow.Tie as tie
 
 -- a table that was made has at most 32 threads
-few : (c : tie.In_default) → c.before.make-made.result.table-1.n ≤ 32
+few : (c : tie.In_default) → c.before.make-made.result.table.n ≤ 32
 few c = made-size _ _ _ c.before.make-made.ensures c.in_default.in_default-own.keys2
 
 part-follow-first-end : tie.Need-slice_bounds-follow_first-end

@@ -2,8 +2,8 @@ use borrow.Author.Rules.{rules}
 use Rattle.model.specs.Bondtrace.{ascii}
 use Rattle.model.specs.Lists.{up_to}
 use Rattle.telling.specs.Texts.{compared_text}
-use Rattle.telling.proofs.compared-1.put_compared.Statement.{statement}
-use Rattle.telling.proofs.compared-1.put_compared.Tie as tie
+use Rattle.telling.proofs.compared.put_compared.Statement.{statement}
+use Rattle.telling.proofs.compared.put_compared.Tie as tie
 
 -- a refusal
 returns : tie.Need-returns-in-Refused
