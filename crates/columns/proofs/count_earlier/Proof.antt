@@ -1,5 +1,5 @@
 use mathlib.Core.Path.{◌≡◌, sym, ap, ◌∙◌}
-use mathlib.Core.Logic.{inl, inr}
+use Rattle.columns.proofs.count_earlier.Lts.{then-is_of, else-is_of}
 use Prim.Native.Nat.{◌≤◌, ◌-◌}
 use native.Mathlib.Omega.{arith}
 use borrow.Author.Rules.{rules}
@@ -26,10 +26,10 @@ loop-again c =
     let turn = tested.before.before in
     let args = turn.before.before.before.args in
     elim c.if-is_of.branch [
-      | inl w ↦
-          let more = one_earlier args.senders.now args.targets.now args.s args.t turn.loop-k.k (sym tested.is_of.ensures ∙ w.0.taken) in
-          (search rules, omega (arith, w.1, turn.loop-k.invariant.1), omega (arith, w.1, turn.loop-k.invariant.2, more))
-      | inr w ↦ (search rules, omega (arith, w.1, turn.loop-k.invariant.1), w.1 ∙ turn.loop-k.invariant.2 ∙ sym (same-earlier _ _ _ _ turn.loop-k.k (sym tested.is_of.ensures ∙ w.0.left)))
+      | then-is_of w ↦
+          let more = one_earlier args.senders.now args.targets.now args.s args.t turn.loop-k.k (sym tested.is_of.ensures ∙ w.if-is_of.true) in
+          (search rules, omega (arith, w.count-is, turn.loop-k.invariant.1), omega (arith, w.count-is, turn.loop-k.invariant.2, more))
+      | else-is_of w ↦ (search rules, omega (arith, w.count-is, turn.loop-k.invariant.1), w.count-is ∙ turn.loop-k.invariant.2 ∙ sym (same-earlier _ _ _ _ turn.loop-k.k (sym tested.is_of.ensures ∙ w.if-is_of.false)))
     ]
 
 returns : tie.Need-returns invariant-loop decreases-loop

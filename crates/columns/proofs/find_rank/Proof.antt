@@ -1,5 +1,5 @@
 use mathlib.Core.Path.{◌≡◌, sym, ◌∙◌}
-use mathlib.Core.Logic.{inl, inr}
+use Rattle.columns.proofs.find_rank.Lts.{then-is_of+else-seen-rank, else-is_of}
 use Prim.Native.Nat.{◌≤◌, ◌-◌}
 use native.Mathlib.Omega.{arith}
 use lib.ListN.{length}
@@ -29,7 +29,7 @@ returns : tie.Need-returns-then-seen-rank invariant-loop decreases-loop
 returns c =
     let tested = c.before.before in
     let turn = top tested in
-    place_found _ _ _ _ _ turn.loop-k.k (search rules) turn.loop-k.inv.3 (sym tested.is_of.ensures ∙ c.before.if-is_of.true) (sym turn.loop-k.inv.2 ∙ c.if-seen-rank.true)
+    place_found _ _ _ _ _ turn.loop-k.k (search rules) turn.loop-k.invariant.3 (sym tested.is_of.ensures ∙ c.before.if-is_of.true) (sym turn.loop-k.invariant.2 ∙ c.if-seen-rank.true)
 
 -- one of another rank, or of others
 loop-again : tie.Need-loop-k-preserved invariant-loop decreases-loop
@@ -37,14 +37,14 @@ loop-again c =
     let tested = c.before in
     let turn = top tested in
     let args = turn.before.before.before.args in
-    let count = turn.loop-k.inv.2 in
+    let count = turn.loop-k.invariant.2 in
     elim c.if-is_of.branch [
-      | inl w ↦
-          let more = one_earlier args.senders.now args.targets.now args.s args.t turn.loop-k.k (sym tested.is_of.ensures ∙ w.0.taken) in
-          (search rules, omega (arith, w.2, turn.loop-k.inv.1), omega (arith, w.2, count, more), not-rank _ _ _ _ _ turn.loop-k.k turn.loop-k.inv.3 (λ e. w.1.left (count ∙ e)))
-      | inr w ↦
-          let others = sym tested.is_of.ensures ∙ w.0.left in
-          (search rules, omega (arith, w.1, turn.loop-k.inv.1), w.1 ∙ count ∙ sym (same-earlier _ _ _ _ turn.loop-k.k others), not-of _ _ _ _ _ turn.loop-k.k turn.loop-k.inv.3 others)
+      | then-is_of+else-seen-rank w ↦
+          let more = one_earlier args.senders.now args.targets.now args.s args.t turn.loop-k.k (sym tested.is_of.ensures ∙ w.if-is_of.true) in
+          (search rules, omega (arith, w.seen-is, turn.loop-k.invariant.1), omega (arith, w.seen-is, count, more), not-rank _ _ _ _ _ turn.loop-k.k turn.loop-k.invariant.3 (λ e. w.if-seen-rank.false (count ∙ e)))
+      | else-is_of w ↦
+          let others = sym tested.is_of.ensures ∙ w.if-is_of.false in
+          (search rules, omega (arith, w.seen-is, turn.loop-k.invariant.1), w.seen-is ∙ count ∙ sym (same-earlier _ _ _ _ turn.loop-k.k others), not-of _ _ _ _ _ turn.loop-k.k turn.loop-k.invariant.3 others)
     ]
 
 -- there is none

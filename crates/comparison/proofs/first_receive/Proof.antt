@@ -35,7 +35,7 @@ loop-holds c = (search rules, λ sends receives sent received k l. absurd (omega
 returns : tie.Need-returns-then-senders-i invariant-loop decreases-loop
 returns c sends receives sent received =
     let turn = top c.before in
-    first-here _ _ _ turn.loop-j.j received.many (search rules) (receive-unsent _ _ _ _ _ _ sent received turn.loop-j.j _ (search rules) c.before.find_mate-i.ensures c.if-senders-i.true) (turn.loop-j.inv.1 sends receives sent received)
+    first-here _ _ _ turn.loop-j.j received.many (search rules) (receive-unsent _ _ _ _ _ _ sent received turn.loop-j.j _ (search rules) c.before.find_mate-i.ensures c.if-senders-i.true) (turn.loop-j.invariant.1 sends receives sent received)
 
 loop-again : tie.Need-loop-j-preserved invariant-loop decreases-loop
 loop-again c =
@@ -43,7 +43,7 @@ loop-again c =
       search rules,
       λ sends receives sent received k l. same? k turn.loop-j.j
           (λ e. rw e (receive-sent _ _ _ _ _ _ sent received turn.loop-j.j _ (search rules) c.before.find_mate-i.ensures (search rules)))
-          (λ d. turn.loop-j.inv.1 sends receives sent received k (omega arith)),
+          (λ d. turn.loop-j.invariant.1 sends receives sent received k (omega arith)),
     )
 
 -- all were

@@ -39,7 +39,7 @@ decided m =
     let f = m.before.before.before.before in
     let turn = top f in
     let pre = turn.before.before.before.before.before.pre in
-    send-found _ _ _ _ _ _ pre.1.1.0 pre.1.1.1 turn.loop-i.inv.1 turn.loop-i.inv.2 pre.0 pre.1.0 turn.loop-i.i _ (search rules) f.find_mate-j.ensures (search rules) ∙ ap not (sym m.same_message.ensures)
+    send-found _ _ _ _ _ _ pre.1.1.0 pre.1.1.1 turn.loop-i.invariant.1 turn.loop-i.invariant.2 pre.0 pre.1.0 turn.loop-i.i _ (search rules) f.find_mate-j.ensures (search rules) ∙ ap not (sym m.same_message.ensures)
 
 -- ---- the needs
 loop-holds : tie.Need-loop-i-init invariant-loop decreases-loop
@@ -59,7 +59,7 @@ returns c =
     let turn = top c.before in
     let start = turn.before.before.before.before.before in
     let pre = start.pre in
-    first-here _ _ _ turn.loop-i.i pre.1.1.0.many (search rules) (send-alone _ _ _ _ _ _ pre.1.1.0 pre.1.1.1 turn.loop-i.i _ (search rules) c.before.find_mate-j.ensures c.if-sources-j.true) turn.loop-i.inv.0
+    first-here _ _ _ turn.loop-i.i pre.1.1.0.many (search rules) (send-alone _ _ _ _ _ _ pre.1.1.0 pre.1.1.1 turn.loop-i.i _ (search rules) c.before.find_mate-j.ensures c.if-sources-j.true) turn.loop-i.invariant.0
 
 element-copy-out-sent : tie.Need-bounds-sends-i invariant-loop decreases-loop
 element-copy-out-sent c = search rules
@@ -73,20 +73,20 @@ same-message-requires c κs =
     let turn = top f in
     let start = turn.before.before.before.before.before in
     let pre = start.pre in
-    (column-small start.args.sends _ _ turn.loop-i.inv.1 pre.0 pre.1.1.0 turn.loop-i.i (search rules), column-small start.args.receives _ _ turn.loop-i.inv.2 pre.1.0 pre.1.1.1 f.find_mate-j.result (search rules))
+    (column-small start.args.sends _ _ turn.loop-i.invariant.1 pre.0 pre.1.1.0 turn.loop-i.i (search rules), column-small start.args.receives _ _ turn.loop-i.invariant.2 pre.1.0 pre.1.1.1 f.find_mate-j.result (search rules))
 
 -- it differs
 returns-2 : tie.Need-returns-then-not-same_message invariant-loop decreases-loop
 returns-2 c =
     let f = c.before.before.before.before.before in
     let turn = top f in
-    first-here _ _ _ turn.loop-i.i turn.before.before.before.before.before.pre.1.1.0.many (search rules) (decided c.before ∙ c.if-not-same_message.true-raw) turn.loop-i.inv.0
+    first-here _ _ _ turn.loop-i.i turn.before.before.before.before.before.pre.1.1.0.many (search rules) (decided c.before ∙ c.if-not-same_message.true-raw) turn.loop-i.invariant.0
 
 loop-again : tie.Need-loop-i-preserved invariant-loop decreases-loop
 loop-again c =
     let f = c.before.before.before.before.before in
     let turn = top f in
-    let inv = turn.loop-i.inv in
+    let inv = turn.loop-i.invariant in
     (λ k l. same? k turn.loop-i.i (λ e. rw e (decided c.before ∙ c.if-not-same_message.false-raw)) (λ d. inv.0 k (omega arith)), inv.1, inv.2, search rules, search rules, search rules, search rules, search rules)
 
 -- none does

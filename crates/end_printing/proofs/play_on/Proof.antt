@@ -32,11 +32,11 @@ start l = l.before.before.before.before
 
 -- the buffer is as long as at the entry
 buffer-kept : (l : Top) → length l.loop-supply.buffer ≡ length (start l).args.buffer.now
-buffer-kept l = l.loop-supply.inv.0.long ∙ sym (start l).pre.1.1.1.1.0
+buffer-kept l = l.loop-supply.invariant.0.long ∙ sym (start l).pre.1.1.1.1.0
 
 -- and so is what the text is written to
 out-kept : (l : Top) → length l.loop-supply.out ≡ length (start l).args.out.now
-out-kept l = l.loop-supply.inv.1 ∙ sym (start l).pre.1.1.1.1.1
+out-kept l = l.loop-supply.invariant.1 ∙ sym (start l).pre.1.1.1.1.1
 
 -- how many words the store has
 abbrev size : Top → ℕ
@@ -70,7 +70,7 @@ left p = let l = top (turn p) in l.loop-supply.supply.end - (l.loop-supply.start
 
 -- the store is still the array's first words
 stored : (p : Played) → Stored (to p) (size (top (turn p))) (words p)
-stored p = stored-after (top (turn p)).loop-supply.inv.0 _ _ _ p.play-played.ensures.0 p.play-played.ensures.1
+stored p = stored-after (top (turn p)).loop-supply.invariant.0 _ _ _ p.play-played.ensures.0 p.play-played.ensures.1
 
 -- which the array has
 within : (p : Played) → size (top (turn p)) ≤ length (words p)
@@ -78,7 +78,7 @@ within p = omega (arith, words-there (stored p), (stored p).array)
 
 -- each byte that was delivered was played or is left
 counted : (p : Played) → (to p).place + left p ≡ (top (turn p)).loop-supply.supply.delivered
-counted p = left_over (top (turn p)).loop-supply.inv.0 _ _ _ p.play-played.ensures.0 p.play-played.ensures.1 (left p) refl
+counted p = left_over (top (turn p)).loop-supply.invariant.0 _ _ _ p.play-played.ensures.0 p.play-played.ensures.1 (left p) refl
 
 -- an unlawful record comes next
 abbrev Bad : Type 0
@@ -146,13 +146,13 @@ same-length-2 c = let e = c.before.before in e.end_of_lem.auto.1.1.1.1.0 ∙ out
 
 returns : tie.Need-returns-then-played invariant-loop decreases-loop
 returns c =
-    let e = c.before.before in let p = bad-played (bad e) in let holds = (top (turn p)).loop-supply.inv in
+    let e = c.before.before in let p = bad-played (bad e) in let holds = (top (turn p)).loop-supply.invariant in
     rw e.end_of_lem.ensures.0 (over holds.0 _ _ _ p.play-played.ensures.0 p.play-played.ensures.1 _ _ _ _ refl holds.1 e.end_of_lem.ensures.1)
 
 -- ---- the buffer is filled again
 supplied-requires : tie.Need-supplied-supply-requires invariant-loop decreases-loop
 supplied-requires c κs =
-    let f = c.before in let p = played f in let F = (top (turn p)).loop-supply.inv.0 in
+    let f = c.before in let p = played f in let F = (top (turn p)).loop-supply.invariant.0 in
     (search rules, (search rules, (has_room F _ _ _ p.play-played.ensures.0 p.play-played.ensures.1 f.if-played.false _ refl, omega (arith, F.long, (turn p).loop-supply-test.taken))))
 
 -- nothing was read
@@ -167,7 +167,7 @@ same-length-4 c = let e = c.before.before in e.end_of-then-supply-left.auto.1.1.
 
 returns-2 : tie.Need-returns-then-supply-left invariant-loop decreases-loop
 returns-2 c =
-    let e = c.before.before in let d = dry e in let p = played (fine (read d)) in let holds = (top (turn p)).loop-supply.inv in
+    let e = c.before.before in let d = dry e in let p = played (fine (read d)) in let holds = (top (turn p)).loop-supply.invariant in
     rw (e.end_of-then-supply-left.ensures.0, sym (none_more d))
     (over holds.0 _ _ _ p.play-played.ensures.0 p.play-played.ensures.1 _ _ _ _ refl holds.1 e.end_of-then-supply-left.ensures.1)
 
@@ -179,7 +179,7 @@ loop-less c =
 
 loop-again : tie.Need-loop-supply-preserved invariant-loop decreases-loop
 loop-again c =
-    let r = c.before.before.before.before in let f = fine r in let p = played f in let holds = (top (turn p)).loop-supply.inv in
+    let r = c.before.before.before.before in let f = fine r in let p = played f in let holds = (top (turn p)).loop-supply.invariant in
     (fills_on holds.0 _ _ _ p.play-played.ensures.0 p.play-played.ensures.1 f.if-played.left _ _ _ _ refl r.supplied-supply.ensures.0 r.supplied-supply.ensures.1, holds.1)
 
 -- ---- the input is too long
@@ -200,7 +200,7 @@ play_on_spec =
     (λ c. search rules) (λ c. search rules) loop-holds
     -- what is in the buffer is played
     array-borrow-prefix-words
-    (λ c. sym (words-length (top c.before).loop-supply.inv.0.stored))
+    (λ c. sym (words-length (top c.before).loop-supply.invariant.0.stored))
     (λ c. search rules) (λ c. search rules) (λ c. search rules) play-requires
     (λ c. search rules) (λ c. search rules) (λ c. search rules)
     -- an unlawful record comes next

@@ -65,7 +65,7 @@ good t = sym t.before.is_lawful.ensures ∙ t.loop-record-test.taken
 
 -- so its head is there
 head : (t : Turn) → 4 ≤ length (rest t)
-head t = head-there (top t).loop-record.inv (good t)
+head t = head-there (top t).loop-record.invariant (good t)
 
 -- its length is known
 abbrev Measured : Type 0
@@ -84,11 +84,11 @@ passes m = ap (λ (k : ℕ). (top (turn m)).loop-record.at + k) m.record_length-
 
 -- fewer bytes are left from there on
 fewer : (m : Measured) → length (bytes (top (turn m))) - to m < length (bytes (top (turn m))) - (top (turn m)).loop-record.at
-fewer m = fewer-left (top (turn m)).loop-record.inv (good (turn m)) (to m) (passes m)
+fewer m = fewer-left (top (turn m)).loop-record.invariant (good (turn m)) (to m) (passes m)
 
 -- one refused call more can be counted
 one_more : (m : Measured) → (top (turn m)).loop-record.refused + 1 < 18446744073709551616
-one_more m = refused-fit (top (turn m)).loop-record.inv (good (turn m))
+one_more m = refused-fit (top (turn m)).loop-record.invariant (good (turn m))
 
 -- a tick: every thread is ticked
 abbrev ticks : tie.After-loop-k invariant-loop2 decreases-loop2 invariant-loop decreases-loop → Measured
@@ -111,15 +111,15 @@ was b = let l = top (turn (measured b)) in state l.loop-record.now l.loop-record
 
 -- its table has as many threads as the first one
 sized : (b : Below) → (was b).table.n ≡ (start (top (turn (measured b)))).args.from.table.n
-sized b = (top (turn (measured b))).loop-record.inv.size
+sized b = (top (turn (measured b))).loop-record.invariant.size
 
 -- and has its shape
 shaped : (b : Below) → Shaped (was b).table
-shaped b = (top (turn (measured b))).loop-record.inv.runnable.checked.shaped
+shaped b = (top (turn (measured b))).loop-record.invariant.runnable.checked.shaped
 
 -- a step of the thread may run
 runs : (b : Below) → refusal (step (x b)) (was b) ≡ 0
-runs b = let t = turn (measured b) in step-runs (top t).loop-record.inv (good t) b.if-n-x.left
+runs b = let t = turn (measured b) in step-runs (top t).loop-record.invariant (good t) b.if-n-x.left
 
 -- so it is in the array
 own-there : (b : Below) → x b < 32
@@ -223,7 +223,7 @@ unruled-rows a = a.begin_refusal.ensures _ (sized (beginning (asks a))) refl
 -- no rules are loaded, so it is the number of all rows
 rows : (a : Asked) → let b = beginning (asks a) in
     a.begin_refusal.result ≡ first_refusal (begin_rows Main (was b).table (x b) a.before.operation_at-op.result)
-rows a = let b = beginning (asks a) in unruled-rows a ∙ sym (without-rules Main (was b).table (x b) _ (top (turn (measured b))).loop-record.inv.unruled)
+rows a = let b = beginning (asks a) in unruled-rows a ∙ sym (without-rules Main (was b).table (x b) _ (top (turn (measured b))).loop-record.invariant.unruled)
 
 -- none refuses it
 abbrev Begins : Type 0
@@ -239,7 +239,7 @@ starting g = beginning (asks (asked g))
 accepted : (g : Begins) → refusal (begin (x (starting g)) (asked g).before.operation_at-op.result) (was (starting g)) ≡ 0
 accepted g =
     let b = starting g in let t = turn (measured b) in
-    begin-runs (top t).loop-record.inv (good t) b.if-n-x.left _ _ (rows (asked g)) g.if-begin_refusal-ne0.left
+    begin-runs (top t).loop-record.invariant (good t) b.if-n-x.left _ _ (rows (asked g)) g.if-begin_refusal-ne0.left
 
 -- the thread whose queue is joined is known
 abbrev Joins : Type 0
@@ -273,7 +273,7 @@ loop-holds c = goes_first _ _ _ c.before.before.before.requires
 
 add_at : tie.Need-overflow_add-at invariant-loop2 decreases-loop2 invariant-loop decreases-loop
 add_at c =
-    let t = turn c in let so_far = (top t).loop-record.inv in
+    let t = turn c in let so_far = (top t).loop-record.invariant in
     omega (arith, record_within so_far (good t), c.record_length-at.ensures, so_far.room)
 
 -- ---- a tick
@@ -286,7 +286,7 @@ loop2-again c = (search rules, search rules, one-more-ticked _ _ _ _ c.before.be
 
 loop-again : tie.Need-loop-record-preserved-then-kind-eq-TICK invariant-loop2 decreases-loop2 invariant-loop decreases-loop
 loop-again c =
-    let m = ticks c in let t = turn m in let so_far = (top t).loop-record.inv in let done = c.before.loop-k.invariant in
+    let m = ticks c in let t = turn m in let so_far = (top t).loop-record.invariant in let done = c.before.loop-k.invariant in
     way_tick so_far (good t) (to m) (passes m) c.before.before.if-kind-eq-TICK.true _ _
     (tick-performed _ (tick-runs so_far (good t)) _ (all-ticked _ _ _ done.2 (omega (arith, done.0, so_far.size))))
 
@@ -294,14 +294,14 @@ loop-again c =
 loop-again-2 : tie.Need-loop-preserved-2 invariant-loop2 decreases-loop2 invariant-loop decreases-loop
 loop-again-2 c =
     let m = c.before.before in let t = turn m in
-    way_beyond (top t).loop-record.inv (good t) (to m) (passes m) c.before.if-kind-eq-TICK.false c.if-n-x.true
+    way_beyond (top t).loop-record.invariant (good t) (to m) (passes m) c.before.if-kind-eq-TICK.false c.if-n-x.true
 
 -- ---- a step
 loop-again-3 : tie.Need-loop-preserved-3 invariant-loop2 decreases-loop2 invariant-loop decreases-loop
 unfolding at
 loop-again-3 c =
     let s = c.before.before.before in let b = below s in let m = measured b in let t = turn m in
-    way_step (top t).loop-record.inv (good t) (to m) (passes m) b.if-n-x.left s.if-kind-eq-STEP.true _ _ _
+    way_step (top t).loop-record.invariant (good t) (to m) (passes m) b.if-n-x.left s.if-kind-eq-STEP.true _ _ _
     (held_stays _ _ (runs b) (shaped b) c.if-own.true)
 
 other-number-requires : tie.Need-other_number-other_number-requires invariant-loop2 decreases-loop2 invariant-loop decreases-loop
@@ -332,7 +332,7 @@ loop-again-4 : tie.Need-loop-preserved-4 invariant-loop2 decreases-loop2 invaria
 unfolding at put
 loop-again-4 c =
     let e = ends c in let d = stepped e in let p = both d in let b = stepping d in let m = measured b in let t = turn m in
-    way_step (top t).loop-record.inv (good t) (to m) (passes m) b.if-n-x.left (steps p).if-kind-eq-STEP.taken _ _ _
+    way_step (top t).loop-record.invariant (good t) (to m) (passes m) b.if-n-x.left (steps p).if-kind-eq-STEP.taken _ _ _
     (stepped-to-end _ _ (runs b) (shaped b) _ _ (finds p) p.other_or_own-j.ensures (free p)
     d.step_threads-change.result d.step_threads-change.ensures.0 _ d.step_threads-change.ensures.1 _ _
     (sym e.if-is_ending.taken ∙ e.before.is_ending.ensures) c.before.before.end_threads-both.ensures)
@@ -342,7 +342,7 @@ loop-again-5 : tie.Need-loop-preserved-5 invariant-loop2 decreases-loop2 invaria
 unfolding at put
 loop-again-5 c =
     let h = half c in let d = on h in let p = both d in let b = stepping d in let m = measured b in let t = turn m in
-    way_step (top t).loop-record.inv (good t) (to m) (passes m) b.if-n-x.left (steps p).if-kind-eq-STEP.taken _ _ _
+    way_step (top t).loop-record.invariant (good t) (to m) (passes m) b.if-n-x.left (steps p).if-kind-eq-STEP.taken _ _ _
     (stepped_on _ _ (runs b) (shaped b) _ _ (finds p) p.other_or_own-j.ensures (free p)
     d.step_threads-change.result d.step_threads-change.ensures.0 _ d.step_threads-change.ensures.1 _ _
     (sym h.before.if-is_ending.left ∙ h.before.before.is_ending.ensures) c.change_own.ensures h.change_other.ensures)
@@ -352,13 +352,13 @@ loop-again-6 : tie.Need-loop-preserved-6 invariant-loop2 decreases-loop2 invaria
 unfolding at
 loop-again-6 c =
     let k = c.before.before in let b = cancelling k in let m = measured b in let t = turn m in
-    way_owned (top t).loop-record.inv (good t) (to m) (passes m) b.if-n-x.left k.if-kind-eq-CANCEL.true c.if-own-2.true
+    way_owned (top t).loop-record.invariant (good t) (to m) (passes m) b.if-n-x.left k.if-kind-eq-CANCEL.true c.if-own-2.true
 
 loop-again-7 : tie.Need-loop-preserved-7 invariant-loop2 decreases-loop2 invariant-loop decreases-loop
 unfolding at put
 loop-again-7 c =
     let k = cancels c in let b = cancelling k in let m = measured b in let t = turn m in
-    way_cancel (top t).loop-record.inv (good t) (to m) (passes m) b.if-n-x.left k.if-kind-eq-CANCEL.taken c.before.if-own-2.false _ c.mark_running.ensures
+    way_cancel (top t).loop-record.invariant (good t) (to m) (passes m) b.if-n-x.left k.if-kind-eq-CANCEL.taken c.before.if-own-2.false _ c.mark_running.ensures
 
 -- ---- a begin
 operation-at-requires : tie.Need-operation_at-op-requires invariant-loop2 decreases-loop2 invariant-loop decreases-loop
@@ -369,7 +369,7 @@ operation-at-requires c κs =
 loop-again-8 : tie.Need-loop-preserved-8 invariant-loop2 decreases-loop2 invariant-loop decreases-loop
 loop-again-8 c =
     let a = c.before in let e = asks a in let b = beginning e in let m = measured b in let t = turn m in
-    way_refused (top t).loop-record.inv (good t) (to m) (passes m) b.if-n-x.left
+    way_refused (top t).loop-record.invariant (good t) (to m) (passes m) b.if-n-x.left
     b.before.if-kind-eq-TICK.left e.before.before.if-kind-eq-STEP.left e.if-kind-eq-CANCEL.left _ a.before.operation_at-op.ensures _ (rows a) c.if-begin_refusal-ne0.true
 
 join-queue-requires : tie.Need-join_queue-requires invariant-loop2 decreases-loop2 invariant-loop decreases-loop
@@ -383,25 +383,25 @@ unfolding at put
 loop-again-9 c =
     let q = joined c in let j = joins q in let g = begins j in
     let a = asked g in let e = asks a in let b = beginning e in let m = measured b in let t = turn m in
-    way_begin (top t).loop-record.inv (good t) (to m) (passes m) b.if-n-x.left
+    way_begin (top t).loop-record.invariant (good t) (to m) (passes m) b.if-n-x.left
     b.before.if-kind-eq-TICK.left e.before.before.if-kind-eq-STEP.left e.if-kind-eq-CANCEL.left _ a.before.operation_at-op.ensures _ (rows a) g.if-begin_refusal-ne0.left _ _ _
     (begin-leaves _ _ _ (accepted g) _ j.before.before.before.zero_thread.ensures _ (sized b) _ _ _
     q.join_queue.ensures c.begin_own.ensures j.joined_thread-j.ensures)
 
 -- ---- the end
 add-t107 : tie.Need-overflow_add-playback invariant-loop2 decreases-loop2 invariant-loop decreases-loop
-add-t107 c = let l = last c.before.before.before in omega (arith, l.loop-record.inv.within, (start l).pre.room)
+add-t107 c = let l = last c.before.before.before in omega (arith, l.loop-record.invariant.within, (start l).pre.room)
 
 same_length : tie.Need-shape_of-store invariant-loop2 decreases-loop2 invariant-loop decreases-loop
 same_length c =
     let l = last c.before.before.before in
-    l.loop-record.inv.runnable.words ∙ ap (λ (k : ℕ). 8 * k) l.loop-record.inv.size ∙ sym (start l).pre.words
+    l.loop-record.invariant.runnable.words ∙ ap (λ (k : ℕ). 8 * k) l.loop-record.invariant.size ∙ sym (start l).pre.words
 
 returns : tie.Need-returns invariant-loop2 decreases-loop2 invariant-loop decreases-loop
 returns c =
     let o = c.before.before.before in let l = last o in (
-      goes_last l.loop-record.inv (sym o.before.is_lawful.ensures ∙ o.loop-record-test.false) _ refl _ c.before.is_whole-bad.ensures,
-      goes_further l.loop-record.inv (start l).pre refl _ refl,
+      goes_last l.loop-record.invariant (sym o.before.is_lawful.ensures ∙ o.loop-record-test.false) _ refl _ c.before.is_whole-bad.ensures,
+      goes_further l.loop-record.invariant (start l).pre refl _ refl,
     )
 
 pub play_spec : {M : Type 1} → statement M
@@ -421,7 +421,7 @@ play_spec =
     (λ c. omega (arith, head c.before.before))
     (λ c. omega (arith, head c.before.before.before))
     (λ c κs. search rules) add_at
-    (λ c. omega (arith, records-fit (top (turn c)).loop-record.inv (good (turn c))))
+    (λ c. omega (arith, records-fit (top (turn c)).loop-record.invariant (good (turn c))))
     -- a tick
     loop2-holds
     (λ c. search rules) (λ c. search rules) (λ c κs. search rules) (λ c. search rules) (λ c. search rules) (λ c. search rules) (λ c. search rules)

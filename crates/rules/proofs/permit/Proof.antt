@@ -32,14 +32,14 @@ returns-2 : tie.Need-returns-then-holds_pair-row invariant-loop decreases-loop
 returns-2 c =
     let tested = c.before.before in
     let turn = top tested in
-    sym (permits-among _ turn.loop-k.k _ _ (search rules) (says-more _ turn.loop-k.k (search rules) _ _ turn.loop-k.inv.2 ∙ rw (← tested.holds_pair.ensures) c.if-holds_pair-row.true))
+    sym (permits-among _ turn.loop-k.k _ _ (search rules) (says-more _ turn.loop-k.k (search rules) _ _ turn.loop-k.invariant.2 ∙ rw (← tested.holds_pair.ensures) c.if-holds_pair-row.true))
 
 -- it does not
 loop-again : tie.Need-loop-k-preserved invariant-loop decreases-loop
 loop-again c =
     let tested = c.before.before in
     let turn = top tested in
-    (search rules, turn.loop-k.inv.1, says-more _ turn.loop-k.k (search rules) _ _ turn.loop-k.inv.2 ∙ rw (← tested.holds_pair.ensures) c.if-holds_pair-row.false)
+    (search rules, turn.loop-k.invariant.1, says-more _ turn.loop-k.k (search rules) _ _ turn.loop-k.invariant.2 ∙ rw (← tested.holds_pair.ensures) c.if-holds_pair-row.false)
 
 -- none says yes
 returns-3 : tie.Need-returns invariant-loop decreases-loop

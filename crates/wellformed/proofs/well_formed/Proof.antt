@@ -58,7 +58,7 @@ own : (k : Copies) → let p = top (alone-tested k) in Own (table p).n p.loop-x.
 unfolding at
 own k =
     let h = alone-tested k in
-    own-told _ _ _ (sym h.thread_alone.ensures ∙ not-false h.thread_alone.result k.before.if-not-thread_alone.left) ((top h).loop-x.inv.1.queues _ (search rules))
+    own-told _ _ _ (sym h.thread_alone.ensures ∙ not-false h.thread_alone.result k.before.if-not-thread_alone.left) ((top h).loop-x.invariant.1.queues _ (search rules))
 
 -- that thread has passed its test
 abbrev CopyPassed : Type 0
@@ -105,7 +105,7 @@ unfolding at
 returns-4 c =
     let h = c.before in
     let p = top h in
-    alone-refused _ p.loop-x.inv.1 p.loop-x.x (search rules) (sym h.thread_alone.ensures ∙ not-true h.thread_alone.result c.if-not-thread_alone.true-raw)
+    alone-refused _ p.loop-x.invariant.1 p.loop-x.x (search rules) (sym h.thread_alone.ensures ∙ not-true h.thread_alone.result c.if-not-thread_alone.true-raw)
 
 -- the thread to which it copies is not ready
 returns-5 : tie.Need-returns-then-not-is_ready invariant-loop decreases-loop
@@ -115,12 +115,12 @@ returns-5 c =
     let there = tested.before.before in
     let k = there.before in
     let p = top (alone-tested k) in
-    copy-refused _ p.loop-x.inv.1 p.loop-x.x _ (search rules) k.copies_to-to.ensures there.if-to-n.true
+    copy-refused _ p.loop-x.invariant.1 p.loop-x.x _ (search rules) k.copies_to-to.ensures there.if-to-n.true
     (sym tested.is_ready.ensures ∙ not-true tested.is_ready.result c.if-not-is_ready.true-raw)
 
 enter-senders-requires : tie.Need-enter_senders-requires invariant-loop decreases-loop
 unfolding at
-enter-senders-requires c κs = let k = copies c.before in (search rules, search rules, queue-small (own k), (top (alone-tested k)).loop-x.inv.2.places)
+enter-senders-requires c κs = let k = copies c.before in (search rules, search rules, queue-small (own k), (top (alone-tested k)).loop-x.invariant.2.places)
 
 -- its waiting senders are not all free
 returns-6 : tie.Need-returns-then-not-enter_senders invariant-loop decreases-loop
@@ -128,7 +128,7 @@ unfolding at
 returns-6 c =
     let e = c.before in
     let p = top (alone-tested (copies (copy_passed e))) in
-    queue-refused _ p.loop-x.inv.1 (search rules) p.loop-x.inv.2 (search rules)
+    queue-refused _ p.loop-x.invariant.1 (search rules) p.loop-x.invariant.2 (search rules)
     (e.enter_senders.ensures.no (not-true e.enter_senders.result c.if-not-enter_senders.true-raw))
 
 -- thread x passes
@@ -141,8 +141,8 @@ loop-again c =
     let k = copies j in
     let p = top (alone-tested k) in
     let entered = e.enter_senders.ensures.yes (not-false e.enter_senders.result free.if-not-enter_senders.false-raw) in
-    let more = passed-more _ (search rules) p.loop-x.inv.2 _ _ (search rules) (own k) k.copies_to-to.ensures (copy j) entered in
-    (search rules, p.loop-x.inv.1, rw (c.before.target_of.ensures, c.lock_held.ensures) more)
+    let more = passed-more _ (search rules) p.loop-x.invariant.2 _ _ (search rules) (own k) k.copies_to-to.ensures (copy j) entered in
+    (search rules, p.loop-x.invariant.1, rw (c.before.target_of.ensures, c.lock_held.ensures) more)
 
 -- all threads passed
 returns-7 : tie.Need-returns invariant-loop decreases-loop
