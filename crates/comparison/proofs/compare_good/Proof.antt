@@ -44,7 +44,7 @@ read-columns-requires-2 c κs =
 compare-columns-requires : tie.Need-compare_columns-requires
 compare-columns-requires c κs =
     let r = received c in
-    let pre = (sent r).before.before.before.before.pre in
+    let pre = (sent r).before.before.before.before.requires in
     (pre.0, (pre.1, ((sent-read r).read_columns.ensures, (received-read c).read_columns-2.ensures)))
 
 returns : tie.Need-returns

@@ -38,7 +38,7 @@ decided : (m : Compared) → let p = top m.before.before.before.before in let ar
 decided m =
     let f = m.before.before.before.before in
     let turn = top f in
-    let pre = turn.before.before.before.before.before.pre in
+    let pre = turn.before.before.before.before.before.requires in
     send-found _ _ _ _ _ _ pre.1.1.0 pre.1.1.1 turn.loop-i.invariant.1 turn.loop-i.invariant.2 pre.0 pre.1.0 turn.loop-i.i _ (search rules) f.find_mate-j.ensures (search rules) ∙ ap not (sym m.same_message.ensures)
 
 -- ---- the needs
@@ -58,7 +58,7 @@ returns : tie.Need-returns-then-sources-j invariant-loop decreases-loop
 returns c =
     let turn = top c.before in
     let start = turn.before.before.before.before.before in
-    let pre = start.pre in
+    let pre = start.requires in
     first-here _ _ _ turn.loop-i.i pre.1.1.0.many (search rules) (send-alone _ _ _ _ _ _ pre.1.1.0 pre.1.1.1 turn.loop-i.i _ (search rules) c.before.find_mate-j.ensures c.if-sources-j.true) turn.loop-i.invariant.0
 
 element-copy-out-sent : tie.Need-bounds-sends-i invariant-loop decreases-loop
@@ -72,7 +72,7 @@ same-message-requires c κs =
     let f = c.before.before.before in
     let turn = top f in
     let start = turn.before.before.before.before.before in
-    let pre = start.pre in
+    let pre = start.requires in
     (column-small start.args.sends _ _ turn.loop-i.invariant.1 pre.0 pre.1.1.0 turn.loop-i.i (search rules), column-small start.args.receives _ _ turn.loop-i.invariant.2 pre.1.0 pre.1.1.1 f.find_mate-j.result (search rules))
 
 -- it differs
@@ -80,7 +80,7 @@ returns-2 : tie.Need-returns-then-not-same_message invariant-loop decreases-loop
 returns-2 c =
     let f = c.before.before.before.before.before in
     let turn = top f in
-    first-here _ _ _ turn.loop-i.i turn.before.before.before.before.before.pre.1.1.0.many (search rules) (decided c.before ∙ c.if-not-same_message.true-raw) turn.loop-i.invariant.0
+    first-here _ _ _ turn.loop-i.i turn.before.before.before.before.before.requires.1.1.0.many (search rules) (decided c.before ∙ c.if-not-same_message.true-raw) turn.loop-i.invariant.0
 
 loop-again : tie.Need-loop-i-preserved invariant-loop decreases-loop
 loop-again c =

@@ -56,7 +56,7 @@ module _ (t : ℕ) where
   next-same-length c = c.before.before.try-step.auto.1.1.1.0
 
   next-returns : try-next-lts.Need-returns-then-left-eq1 (try-step-below t, try-step.Post) (try-next-at t) try-next.Post
-  next-returns c = c.before.before.try-step.ensures
+  next-returns c = c.before.before.try_step.ensures
 
   -- no thread is left
   next-returns-2 : try-next-lts.Need-returns-else-x-table (try-step-below t, try-step.Post) (try-next-at t) try-next.Post
@@ -73,7 +73,7 @@ module _ (t : ℕ) where
   Entry = try-step-lts.Start (claims t) (try-step-at t) try-step.Post
 
   below : (s : Entry) → s.args.x < s.args.table.n
-  below s = s.pre.1.1
+  below s = s.requires.1.1
 
   -- the later threads' lists are counted
   abbrev Tried : Type 0
@@ -84,7 +84,7 @@ module _ (t : ℕ) where
 
   -- thread x has a place among the four
   own-there : (d : Tried) → (entry d).args.x < 4
-  own-there d = in_four (entry d).pre.1.0.front.front (entry d).args.x (below (entry d))
+  own-there d = in_four (entry d).requires.1.0.front.front (entry d).args.x (below (entry d))
 
   -- the other thread of the step is known
   abbrev Found : Type 0
@@ -95,7 +95,7 @@ module _ (t : ℕ) where
 
   -- it has a place among the four
   other-there : (p : Found) → p.other_or_own-j.result < 4
-  other-there p = let s = entry (tried p) in other-in-four s.pre.1.0.front.front s.args.x (below s) _ _ p.before.other_number-other_number.ensures p.other_or_own-j.ensures
+  other-there p = let s = entry (tried p) in other-in-four s.requires.1.0.front.front s.args.x (below s) _ _ p.before.other_number-other_number.ensures p.other_or_own-j.ensures
 
   -- what the step changes is known
   abbrev Made : Type 0
@@ -122,7 +122,7 @@ module _ (t : ℕ) where
   leaves e =
       let m = ended-made e in
       let taken = e.before.before.before in
-      leaves-ended _ _ _ m.change_of-change.result m.change_of-change.ensures _ _ (sym taken.if-is_ending.taken ∙ taken.before.is_ending.ensures) e.before.before.end_threads-both.ensures
+      leaves-ended _ _ _ m.change_of-change.result m.change_of-change.ensures _ _ (sym taken.if-is_ending.true ∙ taken.before.is_ending.ensures) e.before.before.end_threads-both.ensures
 
   -- with their place
   abbrev Placed : Type 0
@@ -151,7 +151,7 @@ module _ (t : ℕ) where
   goes-made g = g.before.before
 
   goes : (g : GoesOn) → false ≡ ends (ending_action (goes-made g).change_of-change.result.ending)
-  goes g = sym g.if-is_ending.left ∙ g.before.is_ending.ensures
+  goes g = sym g.if-is_ending.false ∙ g.before.is_ending.ensures
 
   -- it leads to the place where it started
   goes-leads : (g : GoesOn) (u : Table) → Whole (start (goes-made g)).args.table u → (start (goes-made g)).args.table.place ≡ place_of (after_step (start (goes-made g)).args.x u)
@@ -171,7 +171,7 @@ module _ (t : ℕ) where
   own-copied c = own-there c
 
   other-number-requires : try-step-lts.Need-other_number-other_number-requires (claims t) (try-step-at t) try-step.Post
-  other-number-requires c κs = let s = entry c.before in queue-front s.pre.1.0.front.front s.args.x (below s)
+  other-number-requires c κs = let s = entry c.before in queue-front s.requires.1.0.front.front s.args.x (below s)
 
   mul-other : try-step-lts.Need-offset_bounds-table-j (claims t) (try-step-at t) try-step.Post
   mul-other c = record { fits = omega (arith, other-there c) }
@@ -183,7 +183,7 @@ module _ (t : ℕ) where
   change-of-requires c κs =
       let p = c.before in
       let s = entry (tried p) in
-      fits-front s.pre.1.0.front.front s.args.x (below s) _ _ p.before.other_number-other_number.ensures p.other_or_own-j.ensures
+      fits-front s.requires.1.0.front.front s.args.x (below s) _ _ p.before.other_number-other_number.ensures p.other_or_own-j.ensures
 
   -- ---- the step ends something
   end-threads-requires : try-step-lts.Need-end_threads-both-requires (claims t) (try-step-at t) try-step.Post
@@ -192,26 +192,26 @@ module _ (t : ℕ) where
   place-with-requires : try-step-lts.Need-place_with-p-requires (claims t) (try-step-at t) try-step.Post
   place-with-requires c κs =
       let m = ended-made c in
-      ((own-there (turn m), other-there (found m)), coded-ended (start m).pre.1.0.front.front (start m).args.x (below (start m)) _ _ (found m).before.other_number-other_number.ensures (found m).other_or_own-j.ensures (leaves c))
+      ((own-there (turn m), other-there (found m)), coded-ended (start m).requires.1.0.front.front (start m).args.x (below (start m)) _ _ (found m).before.other_number-other_number.ensures (found m).other_or_own-j.ensures (leaves c))
 
   -- it was the last one
   ended-mul : try-step-lts.Need-offset_bounds-counts-p (claims t) (try-step-at t) try-step.Post
   ended-mul c = record { fits = omega (arith, c.before.place_with-p.ensures.1) }
 
   ended-read : try-step-lts.Need-bounds-counts-p (claims t) (try-step-at t) try-step.Post
-  ended-read c = let d = c.before.before in let m = placed-made d in omega (arith, d.place_with-p.ensures.1, (turn m).before.before.try_next.kept.1.1.1.0, (start m).pre.1.0.long)
+  ended-read c = let d = c.before.before in let m = placed-made d in omega (arith, d.place_with-p.ensures.1, (turn m).before.before.try_next.kept.1.1.1.0, (start m).requires.1.0.long)
 
   ended-add : try-step-lts.Need-overflow_add-counts (claims t) (try-step-at t) try-step.Post
-  ended-add c = let d = c.before.before in let m = placed-made d in record { fits = one-fits (start m).pre.1.0 (below (start m)) (turn m).before.before.try_next.ensures (turn m).before.before.try_next.kept.1.1.1.0 c.before.if-left-eq1.true _ (ended-leads d) d.place_with-p.ensures.1 }
+  ended-add c = let d = c.before.before in let m = placed-made d in record { fits = one-fits (start m).requires.1.0 (below (start m)) (turn m).before.before.try_next.ensures (turn m).before.before.try_next.kept.1.1.1.0 c.before.if-left-eq1.true _ (ended-leads d) d.place_with-p.ensures.1 }
 
   ended-write : try-step-lts.Need-bounds-counts-p-then-left-eq1 (claims t) (try-step-at t) try-step.Post
-  ended-write c = let d = c.before.before in let m = placed-made d in omega (arith, d.place_with-p.ensures.1, (turn m).before.before.try_next.kept.1.1.1.0, (start m).pre.1.0.long)
+  ended-write c = let d = c.before.before in let m = placed-made d in omega (arith, d.place_with-p.ensures.1, (turn m).before.before.try_next.kept.1.1.1.0, (start m).requires.1.0.long)
 
   ended-length : try-step-lts.Need-shape_of-counts (claims t) (try-step-at t) try-step.Post
   ended-length c = let m = placed-made c.before.before in simp length-set (turn m).before.before.try_next.kept.1.1.1.0
 
   ended-returns : try-step-lts.Need-returns-then-left-eq1 (claims t) (try-step-at t) try-step.Post
-  ended-returns c = let d = c.before.before in let m = placed-made d in counted-last (start m).pre.1.0 (below (start m)) (turn m).before.before.try_next.ensures (turn m).before.before.try_next.kept.1.1.1.0 c.before.if-left-eq1.true _ (ended-leads d) d.place_with-p.ensures.1
+  ended-returns c = let d = c.before.before in let m = placed-made d in counted-last (start m).requires.1.0 (below (start m)) (turn m).before.before.try_next.ensures (turn m).before.before.try_next.kept.1.1.1.0 c.before.if-left-eq1.true _ (ended-leads d) d.place_with-p.ensures.1
 
   -- or steps are left
   mul-theirs : try-step-lts.Need-offset_bounds-next-j (claims t) (try-step-at t) try-step.Post
@@ -230,13 +230,13 @@ module _ (t : ℕ) where
   cast-place c = omega (arith, c.before.place_with-p.ensures.1)
 
   ended-left : try-step-lts.Need-overflow_sub-left (claims t) (try-step-at t) try-step.Post
-  ended-left c = let m = placed-made c.before in omega (arith, (start m).pre.1.0.some)
+  ended-left c = let m = placed-made c.before in omega (arith, (start m).requires.1.0.some)
 
   ended-on-requires : try-step-lts.Need-try_next-requires-then-is_ending (claims t) (try-step-at t) try-step.Post
   ended-on-requires c κs =
       let d = c.before.before in
       let m = placed-made d in
-      (omega (arith, (start m).pre.0, below (start m), (start m).pre.1.0.front.front.few, (start m).pre.1.0.front.front.size, (start m).pre.1.0.some), trying_on (start m).pre.1.0 (below (start m)) (turn m).before.before.try_next.ensures (turn m).before.before.try_next.kept.1.1.1.0 c.before.if-left-eq1.false (ended_to d))
+      (omega (arith, (start m).requires.0, below (start m), (start m).requires.1.0.front.front.few, (start m).requires.1.0.front.front.size, (start m).requires.1.0.some), trying_on (start m).requires.1.0 (below (start m)) (turn m).before.before.try_next.ensures (turn m).before.before.try_next.kept.1.1.1.0 c.before.if-left-eq1.false (ended_to d))
 
   ended-on-length : try-step-lts.Need-shape_of-counts-then-is_ending (claims t) (try-step-at t) try-step.Post
   ended-on-length c = let m = placed-made c.before.before.before.before.before in c.before.before.try_next-then-is_ending.auto.1.1.1.0 ∙ (turn m).before.before.try_next.kept.1.1.1.0
@@ -245,27 +245,27 @@ module _ (t : ℕ) where
   ended-on-returns c =
       let e = c.before.before.before.before in
       let m = placed-made e.before in
-      counted_on (start m).pre.1.0 (below (start m)) (turn m).before.before.try_next.ensures (turn m).before.before.try_next.kept.1.1.1.0 e.if-left-eq1.false (ended_to e.before) c.before.before.try_next-then-is_ending.ensures
+      counted_on (start m).requires.1.0 (below (start m)) (turn m).before.before.try_next.ensures (turn m).before.before.try_next.kept.1.1.1.0 e.if-left-eq1.false (ended_to e.before) c.before.before.try_next-then-is_ending.ensures
 
   -- ---- it ends nothing
   -- it was the last one
   goes-cast : try-step-lts.Need-overflow_cast-counts (claims t) (try-step-at t) try-step.Post
-  goes-cast c = let m = goes-made c.before in omega (arith, place_in_counts (start m).pre.1.0.front)
+  goes-cast c = let m = goes-made c.before in omega (arith, place_in_counts (start m).requires.1.0.front)
 
   goes_mul : try-step-lts.Need-offset_bounds-counts-table (claims t) (try-step-at t) try-step.Post
-  goes_mul c = let m = goes-made c.before in record { fits = omega (arith, place_in_counts (start m).pre.1.0.front) }
+  goes_mul c = let m = goes-made c.before in record { fits = omega (arith, place_in_counts (start m).requires.1.0.front) }
 
   goes-read : try-step-lts.Need-bounds-counts-table (claims t) (try-step-at t) try-step.Post
-  goes-read c = let m = goes-made c.before.before in omega (arith, place_in_counts (start m).pre.1.0.front, (turn m).before.before.try_next.kept.1.1.1.0, (start m).pre.1.0.long)
+  goes-read c = let m = goes-made c.before.before in omega (arith, place_in_counts (start m).requires.1.0.front, (turn m).before.before.try_next.kept.1.1.1.0, (start m).requires.1.0.long)
 
   goes_add : try-step-lts.Need-overflow_add-counts-then-left-eq1-2 (claims t) (try-step-at t) try-step.Post
   goes_add c =
       let g = c.before.before in
       let m = goes-made g in
-      record { fits = one-fits (start m).pre.1.0 (below (start m)) (turn m).before.before.try_next.ensures (turn m).before.before.try_next.kept.1.1.1.0 c.before.if-left-eq1-2.true _ (goes-leads g) (place_in_counts (start m).pre.1.0.front) }
+      record { fits = one-fits (start m).requires.1.0 (below (start m)) (turn m).before.before.try_next.ensures (turn m).before.before.try_next.kept.1.1.1.0 c.before.if-left-eq1-2.true _ (goes-leads g) (place_in_counts (start m).requires.1.0.front) }
 
   goes-write : try-step-lts.Need-bounds-counts-table-then-left-eq1-2 (claims t) (try-step-at t) try-step.Post
-  goes-write c = let m = goes-made c.before.before in omega (arith, place_in_counts (start m).pre.1.0.front, (turn m).before.before.try_next.kept.1.1.1.0, (start m).pre.1.0.long)
+  goes-write c = let m = goes-made c.before.before in omega (arith, place_in_counts (start m).requires.1.0.front, (turn m).before.before.try_next.kept.1.1.1.0, (start m).requires.1.0.long)
 
   goes-length : try-step-lts.Need-shape_of-counts-then-left-eq1-2 (claims t) (try-step-at t) try-step.Post
   goes-length c = let m = goes-made c.before.before in simp length-set (turn m).before.before.try_next.kept.1.1.1.0
@@ -274,7 +274,7 @@ module _ (t : ℕ) where
   goes-returns c =
       let g = c.before.before in
       let m = goes-made g in
-      counted-last (start m).pre.1.0 (below (start m)) (turn m).before.before.try_next.ensures (turn m).before.before.try_next.kept.1.1.1.0 c.before.if-left-eq1-2.true _ (goes-leads g) (place_in_counts (start m).pre.1.0.front)
+      counted-last (start m).requires.1.0 (below (start m)) (turn m).before.before.try_next.ensures (turn m).before.before.try_next.kept.1.1.1.0 c.before.if-left-eq1-2.true _ (goes-leads g) (place_in_counts (start m).requires.1.0.front)
 
   -- it changes nothing
   abbrev Stays : Type 0
@@ -288,16 +288,16 @@ module _ (t : ℕ) where
       let g = stays_on e in
       let m = goes-made g in
       whole_same W.front (start m).args.x (below (start m)) _ _ (found m).before.other_number-other_number.ensures (found m).other_or_own-j.ensures _ (leaves-changed _ _ _ m.change_of-change.result m.change_of-change.ensures (goes g)) W.place
-      (leaves-same _ _ _ m.change_of-change.result m.change_of-change.ensures (goes g) (sym e.before.changes_nothing.ensures ∙ e.if-changes_nothing.taken))
+      (leaves-same _ _ _ m.change_of-change.result m.change_of-change.ensures (goes g) (sym e.before.changes_nothing.ensures ∙ e.if-changes_nothing.true))
 
   same_left : try-step-lts.Need-overflow_sub-left-then-changes_nothing (claims t) (try-step-at t) try-step.Post
-  same_left c = let m = goes-made (stays_on c) in omega (arith, (start m).pre.1.0.some)
+  same_left c = let m = goes-made (stays_on c) in omega (arith, (start m).requires.1.0.some)
 
   same-on-requires : try-step-lts.Need-try_next-requires-then-changes_nothing (claims t) (try-step-at t) try-step.Post
   same-on-requires c κs =
       let e = c.before in
       let m = goes-made (stays_on e) in
-      (omega (arith, (start m).pre.0, below (start m), (start m).pre.1.0.front.front.few, (start m).pre.1.0.front.front.size, (start m).pre.1.0.some), trying_on (start m).pre.1.0 (below (start m)) (turn m).before.before.try_next.ensures (turn m).before.before.try_next.kept.1.1.1.0 e.before.before.if-left-eq1-2.false (same-to e))
+      (omega (arith, (start m).requires.0, below (start m), (start m).requires.1.0.front.front.few, (start m).requires.1.0.front.front.size, (start m).requires.1.0.some), trying_on (start m).requires.1.0 (below (start m)) (turn m).before.before.try_next.ensures (turn m).before.before.try_next.kept.1.1.1.0 e.before.before.if-left-eq1-2.false (same-to e))
 
   same-on-length : try-step-lts.Need-shape_of-counts-then-changes_nothing (claims t) (try-step-at t) try-step.Post
   same-on-length c = let m = goes-made (stays_on c.before.before.before.before) in c.before.before.try_next-then-changes_nothing.auto.1.1.1.0 ∙ (turn m).before.before.try_next.kept.1.1.1.0
@@ -306,7 +306,7 @@ module _ (t : ℕ) where
   same-on-returns c =
       let e = c.before.before.before.before in
       let m = goes-made (stays_on e) in
-      counted_on (start m).pre.1.0 (below (start m)) (turn m).before.before.try_next.ensures (turn m).before.before.try_next.kept.1.1.1.0 e.before.before.if-left-eq1-2.false (same-to e) c.before.before.try_next-then-changes_nothing.ensures
+      counted_on (start m).requires.1.0 (below (start m)) (turn m).before.before.try_next.ensures (turn m).before.before.try_next.kept.1.1.1.0 e.before.before.if-left-eq1-2.false (same-to e) c.before.before.try_next-then-changes_nothing.ensures
 
   -- it sets some fields of both
   abbrev Changed : Type 0
@@ -335,13 +335,13 @@ module _ (t : ℕ) where
   set_own c = own-there (turn (goes-made (changed-on c)))
 
   changed-left : try-step-lts.Need-overflow_sub-left-2 (claims t) (try-step-at t) try-step.Post
-  changed-left c = let m = goes-made (changed-on c) in omega (arith, (start m).pre.1.0.some)
+  changed-left c = let m = goes-made (changed-on c) in omega (arith, (start m).requires.1.0.some)
 
   changed-on-requires : try-step-lts.Need-try_next-requires-2 (claims t) (try-step-at t) try-step.Post
   changed-on-requires c κs =
       let d = c.before in
       let m = goes-made (changed-on d) in
-      (omega (arith, (start m).pre.0, below (start m), (start m).pre.1.0.front.front.few, (start m).pre.1.0.front.front.size, (start m).pre.1.0.some), trying_on (start m).pre.1.0 (below (start m)) (turn m).before.before.try_next.ensures (turn m).before.before.try_next.kept.1.1.1.0 d.before.before.before.before.if-left-eq1-2.false (changed-to d))
+      (omega (arith, (start m).requires.0, below (start m), (start m).requires.1.0.front.front.few, (start m).requires.1.0.front.front.size, (start m).requires.1.0.some), trying_on (start m).requires.1.0 (below (start m)) (turn m).before.before.try_next.ensures (turn m).before.before.try_next.kept.1.1.1.0 d.before.before.before.before.if-left-eq1-2.false (changed-to d))
 
   changed-on-length : try-step-lts.Need-shape_of-counts (claims t) (try-step-at t) try-step.Post
   changed-on-length c = let m = goes-made (changed-on c.before.before.before.before) in c.before.before.try_next-2.auto.1.1.1.0 ∙ (turn m).before.before.try_next.kept.1.1.1.0
@@ -350,7 +350,7 @@ module _ (t : ℕ) where
   changed-on-returns c =
       let d = c.before.before.before.before in
       let m = goes-made (changed-on d) in
-      counted_on (start m).pre.1.0 (below (start m)) (turn m).before.before.try_next.ensures (turn m).before.before.try_next.kept.1.1.1.0 d.before.before.before.before.if-left-eq1-2.false (changed-to d) c.before.before.try_next-2.ensures
+      counted_on (start m).requires.1.0 (below (start m)) (turn m).before.before.try_next.ensures (turn m).before.before.try_next.kept.1.1.1.0 d.before.before.before.before.if-left-eq1-2.false (changed-to d) c.before.before.try_next-2.ensures
 
 pub +try_next_try_step_spec : {M : Type 1} → statement M
 +try_next_try_step_spec =

@@ -33,7 +33,7 @@ turn d = d.before.before.before
 more : (d : Read) → Placed (entry (turn d)).args.n (entry (turn d)).args.outcomes ((turn d).before.loop-i.i - 1) (d.digit.result + 8 * (turn d).before.loop-i.p)
 more d =
     let w = turn d in
-    placed-more (entry w).pre w.before.loop-i.i w.before.loop-i.p d.digit.result w.loop-i-test.taken (d.digit.ensures ∙ ap (λ (z : ℤ). digit_of z) (search rules)) w.before.loop-i.invariant
+    placed-more (entry w).requires w.before.loop-i.i w.before.loop-i.p d.digit.result w.loop-i-test.true (d.digit.ensures ∙ ap (λ (z : ℤ). digit_of z) (search rules)) w.before.loop-i.invariant
 
 -- ---- the needs
 loop-holds : tie.Need-loop-i-init invariant-loop decreases-loop
@@ -46,10 +46,10 @@ array-copy-out-outcome : tie.Need-bounds-outcomes-i invariant-loop decreases-loo
 array-copy-out-outcome c = omega (arith, c.before.loop-i.invariant.0, (entry c).requires.few, c.loop-i-test.true)
 
 mul-p : tie.Need-overflow_mul-p invariant-loop decreases-loop
-mul-p c = let w = turn c in record { fits = omega (arith, placed-small (entry w).pre _ _ w.before.loop-i.invariant) }
+mul-p c = let w = turn c in record { fits = omega (arith, placed-small (entry w).requires _ _ w.before.loop-i.invariant) }
 
 add-p : tie.Need-overflow_add-p invariant-loop decreases-loop
-add-p c = record { fits = omega (arith, placed-small (entry (turn c)).pre _ _ (more c)) }
+add-p c = record { fits = omega (arith, placed-small (entry (turn c)).requires _ _ (more c)) }
 
 loop-less : tie.Need-loop-i-smaller invariant-loop decreases-loop
 loop-less c = omega (arith, (turn c).loop-i-test.true)

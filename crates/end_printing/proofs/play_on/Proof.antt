@@ -32,11 +32,11 @@ start l = l.before.before.before.before
 
 -- the buffer is as long as at the entry
 buffer-kept : (l : Top) → length l.loop-supply.buffer ≡ length (start l).args.buffer.now
-buffer-kept l = l.loop-supply.invariant.0.long ∙ sym (start l).pre.1.1.1.1.0
+buffer-kept l = l.loop-supply.invariant.0.long ∙ sym (start l).requires.1.1.1.1.0
 
 -- and so is what the text is written to
 out-kept : (l : Top) → length l.loop-supply.out ≡ length (start l).args.out.now
-out-kept l = l.loop-supply.invariant.1 ∙ sym (start l).pre.1.1.1.1.1
+out-kept l = l.loop-supply.invariant.1 ∙ sym (start l).requires.1.1.1.1.1
 
 -- how many words the store has
 abbrev size : Top → ℕ
@@ -113,8 +113,8 @@ abbrev read : Dry → Read
 read d = d.before.before.before.before
 
 -- so as many bytes are delivered as before
-none_more : (d : Dry) → (top (turn (played (fine (read d))))).loop-supply.supply.delivered ≡ (read d).supplied.result.delivered
-none_more d = nothing_read _ _ _ _ (read d).supplied-supply.ensures.1 d.if-supply-left.taken
+none_more : (d : Dry) → (top (turn (played (fine (read d))))).loop-supply.supply.delivered ≡ (read d).supplied-supply.result.delivered
+none_more d = nothing_read _ _ _ _ (read d).supplied-supply.ensures.1 d.if-supply-left.true
 
 -- the end is told
 abbrev dry : tie.After-end_of-then-supply-left invariant-loop decreases-loop → Dry
@@ -153,7 +153,7 @@ returns c =
 supplied-requires : tie.Need-supplied-supply-requires invariant-loop decreases-loop
 supplied-requires c κs =
     let f = c.before in let p = played f in let F = (top (turn p)).loop-supply.invariant.0 in
-    (search rules, (search rules, (has_room F _ _ _ p.play-played.ensures.0 p.play-played.ensures.1 f.if-played.false _ refl, omega (arith, F.long, (turn p).loop-supply-test.taken))))
+    (search rules, (search rules, (has_room F _ _ _ p.play-played.ensures.0 p.play-played.ensures.1 f.if-played.false _ refl, omega (arith, F.long, (turn p).loop-supply-test.true))))
 
 -- nothing was read
 end-of-requires-2 : tie.Need-end_of-requires-then-supply-left invariant-loop decreases-loop
@@ -175,12 +175,12 @@ returns-2 c =
 loop-less : tie.Need-loop-supply-smaller invariant-loop decreases-loop
 loop-less c =
     let r = c.before.before.before.before in let t = turn (played (fine r)) in
-    more-read _ _ _ _ r.supplied-supply.ensures.1 c.if-supply-left.false r.supplied-supply.ensures.0.more (omega (arith, t.loop-supply-test.taken))
+    more-read _ _ _ _ r.supplied-supply.ensures.1 c.if-supply-left.false r.supplied-supply.ensures.0.more (omega (arith, t.loop-supply-test.true))
 
 loop-again : tie.Need-loop-supply-preserved invariant-loop decreases-loop
 loop-again c =
     let r = c.before.before.before.before in let f = fine r in let p = played f in let holds = (top (turn p)).loop-supply.invariant in
-    (fills_on holds.0 _ _ _ p.play-played.ensures.0 p.play-played.ensures.1 f.if-played.left _ _ _ _ refl r.supplied-supply.ensures.0 r.supplied-supply.ensures.1, holds.1)
+    (fills_on holds.0 _ _ _ p.play-played.ensures.0 p.play-played.ensures.1 f.if-played.false _ _ _ _ refl r.supplied-supply.ensures.0 r.supplied-supply.ensures.1, holds.1)
 
 -- ---- the input is too long
 same-length-6 : tie.Need-shape_of-out invariant-loop decreases-loop

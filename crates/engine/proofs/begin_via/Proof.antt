@@ -93,8 +93,8 @@ accepted q =
     let p = place-tested b in
     let s = start q in
     let t = s.args.table in
-    let none = b.before.before.if-second-ne0.left in
-    begin-number (found s) (table-formed t _ (table-tested p).table_refusal-first.ensures p.before.if-first-ne0.left) s.args.thread
+    let none = b.before.before.if-second-ne0.false in
+    begin-number (found s) (table-formed t _ (table-tested p).table_refusal-first.ensures p.before.if-first-ne0.false) s.args.thread
     (place-below t _ _ _ (place-rows p) none) (place-store t _ _ _ (place-rows p) none) s.args.via s.args.op
     ∙ sym (all-rows q.before) ∙ q.if-fourth-ne0.false
 
@@ -131,7 +131,7 @@ permit-refusal-requires : tie.Need-permit_refusal-fourth-requires
 permit-refusal-requires c κs =
     let p = place-tested c.before.before in
     let t = table-tested p in
-    table-few-rules (entry t).args.table _ t.table_refusal-first.ensures p.before.if-first-ne0.left
+    table-few-rules (entry t).args.table _ t.table_refusal-first.ensures p.before.if-first-ne0.false
 
 -- the row on the rules refuses
 returns-4 : tie.Need-returns-then-fourth-ne0

@@ -94,7 +94,7 @@ cancel-requires c κs =
     let m = number-tested l in
     let s = entry (table-tested m) in
     let t = s.args.table in
-    cancel-accepted (found s []) (table-formed t _ (table-tested m).table_refusal-first.ensures m.before.if-first-ne0.left) s.args.thread
+    cancel-accepted (found s []) (table-formed t _ (table-tested m).table_refusal-first.ensures m.before.if-first-ne0.false) s.args.thread
     (number-below t _ _ (number-row m) l.before.before.if-second-ne0.false) (lock-unowned t _ _ (lock-row l) c.if-third-ne0.false)
 
 -- no row holds: what the core promises is promised

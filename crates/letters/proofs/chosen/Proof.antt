@@ -19,7 +19,7 @@ unfolding choice_digits ascii up_to
 returns-2 c =
     let again = c.before.before.before in
     let compared = again.before.before.before in
-    rw (sym compared.is_IsWord.ensures ∙ again.before.before.if1.false, sym again.is-word2.ensures ∙ c.before.before.if2.true) c.measured-then-is_word-2.ensures
+    rw (sym compared.is_IsWord.ensures ∙ again.before.before.if1.false, sym again.is_word-2.ensures ∙ c.before.before.if2.true) c.measured-then-is_word-2.ensures
 
 -- neither
 returns-3 : tie.Need-returns
@@ -27,7 +27,7 @@ unfolding choice_digits ascii up_to
 returns-3 c =
     let again = c.before.before.before in
     let compared = again.before.before.before in
-    rw (sym compared.is_IsWord.ensures ∙ again.before.before.if1.false, sym again.is-word2.ensures ∙ c.before.before.if2.false) c.measured-2.ensures
+    rw (sym compared.is_IsWord.ensures ∙ again.before.before.if1.false, sym again.is_word-2.ensures ∙ c.before.before.if2.false) c.measured-2.ensures
 
 pub chosen_spec : {M : Type 1} → statement M
 chosen_spec =

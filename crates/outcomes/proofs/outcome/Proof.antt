@@ -172,7 +172,7 @@ module _ {M : Type 1} {𝓤 : Ura M} (𝓛 : Logic 𝓤) (at_mem : Memory → SP
     to_answer = (((κ, tt), (q, tt), tt, given, values), tt)
 
     -- it asks for the store and the token
-    asks-answer : ent 𝓤 (⋆ 𝓛 (Borrowed ∷ Token ∷ [])) (ToAnswer.pre to_answer)
+    asks-answer : ent 𝓤 (⋆ 𝓛 (Borrowed ∷ Token ∷ [])) (ToAnswer.requires to_answer)
     asks-answer =
         qed 𝓛 (Borrowed ∷ Token ∷ []) ∵ nothing ! $ move ! (1 ∷ 0 ∷ []) $ fjoin ! $ owned ! u8 (Is u8) (uint_Makes 𝓛 w8) x (vint w8 x ∷ []) (refl, x_Fits) $ fjoin ! $
         owned ! table.the_row (Is table.the_row) (struct.makes table.the_type table-laws.the_plain 𝓛) t (table_value t ∷ []) table_is $ fjoin ! $ move ! (1 ∷ 0 ∷ []) $ join ! $ frame ! $ done !
@@ -208,7 +208,7 @@ module _ {M : Type 1} {𝓤 : Ura M} (𝓛 : Logic 𝓤) (at_mem : Memory → SP
       to_borrow = (((κ, tt), (q, tt), tt, (a, (x, (s, tt))), (u ∷ [], (vint w8 x ∷ [], (slice_value s ∷ [], tt)))), tt)
 
       -- it asks for the store and the token
-      asks-borrow : ent 𝓤 (⋆ 𝓛 (Borrowed ∷ Token ∷ [])) (ToBorrow.pre to_borrow)
+      asks-borrow : ent 𝓤 (⋆ 𝓛 (Borrowed ∷ Token ∷ [])) (ToBorrow.requires to_borrow)
       asks-borrow =
           qed 𝓛 (Borrowed ∷ Token ∷ []) ∵ nothing ! $ move ! (1 ∷ 0 ∷ []) $ fjoin ! $ owned ! u8 (Is u8) (uint_Makes 𝓛 w8) x (vint w8 x ∷ []) (refl, x_Fits) $ fjoin ! $
           owned ! answer.the_row (Is answer.the_row) (enum.makes answer.the_type answer-laws.the_plain 𝓛) a (u ∷ []) a-is $ fjoin ! $ move ! (1 ∷ 0 ∷ []) $ join ! $ frame ! $ done !
@@ -262,12 +262,12 @@ module _ {M : Type 1} {𝓤 : Ura M} (𝓛 : Logic 𝓤) (at_mem : Memory → SP
         pass1 ! (init ! 8 refl ((struct.lawful table.the_type table-laws.the_laws 𝓛).typed t _ table_is).0) $ pass1 ! (init ! 6 refl ((uint_Lawful 𝓛 w8).typed x _ (refl, x_Fits)).0) $
         pass1 ! (init ! 4 refl ((shr_slice_Lawful 𝓛 (named 0) κ u32).typed s _ Store-is).0) $ pass0 ! $
         -- the first call, whose result a lies in local 4
-        move ! (12 ∷ 15 ∷ []) $ use2 𝓛 (raw (ToAnswer.pre to_answer)) asks-answer $
+        move ! (12 ∷ 15 ∷ []) $ use2 𝓛 (raw (ToAnswer.requires to_answer)) asks-answer $
         calls_at ! (fm_of 𝓤 H 𝓛.laws 𝓣) ToAnswer answers to_answer (and_then ! (local ! 9 refl) (and_then ! (local ! 7 refl) (and_then ! (local ! 5 refl) (no_more !)))) (λ u.
         returned ! tt κ q answer.the_row answer_clause (Answered t) says-answer u (λ a answered a-is. drop ! $
         land ! (from ! (stop !)) (init ! 3 refl ((enum.lawful answer.the_type answer-laws.the_laws 𝓛 tt).typed a _ a-is).0) $
         -- the second call, whose result w lies in local 5
-        move ! (13 ∷ 0 ∷ []) $ use2 𝓛 (raw (ToBorrow.pre (to_borrow a u a-is answered))) (asks-borrow a u a-is answered) $
+        move ! (13 ∷ 0 ∷ []) $ use2 𝓛 (raw (ToBorrow.requires (to_borrow a u a-is answered))) (asks-borrow a u a-is answered) $
         calls_at ! (fm_of 𝓤 H 𝓛.laws 𝓣) ToBorrow borrows (to_borrow a u a-is answered) (and_then ! (local ! 3 refl) (and_then ! (local ! 7 refl) (and_then ! (local ! 5 refl) (no_more !)))) (λ v.
         returned ! tt κ q (Store κ) (borrow_clause a u a-is answered) Handed (says-borrow a u a-is answered) v (λ w handed w-is.
         -- [the words; the token; the locals; the store]

@@ -61,7 +61,7 @@ rest t = from_place (bytes (top t)) (top t).loop-record.at
 
 -- they start with a lawful record
 good : (t : Turn) → lawful false (front (rest t)) ≡ true
-good t = sym t.before.is_lawful.ensures ∙ t.loop-record-test.taken
+good t = sym t.before.is_lawful.ensures ∙ t.loop-record-test.true
 
 -- so its head is there
 head : (t : Turn) → 4 ≤ length (rest t)
@@ -119,7 +119,7 @@ shaped b = (top (turn (measured b))).loop-record.invariant.runnable.checked.shap
 
 -- a step of the thread may run
 runs : (b : Below) → refusal (step (x b)) (was b) ≡ 0
-runs b = let t = turn (measured b) in step-runs (top t).loop-record.invariant (good t) b.if-n-x.left
+runs b = let t = turn (measured b) in step-runs (top t).loop-record.invariant (good t) b.if-n-x.false
 
 -- so it is in the array
 own-there : (b : Below) → x b < 32
@@ -146,7 +146,7 @@ own p = let b = below (steps p) in at (was b).table (x b)
 -- its lock is free
 free : (p : Both) → (own p).owner ≡ nobody
 unfolding at
-free p = p.before.before.if-own.left
+free p = p.before.before.if-own.false
 
 -- the other thread of its step was looked for
 finds : (p : Both) → p.before.other_number-other_number.result ≡ other (own p)
@@ -239,7 +239,7 @@ starting g = beginning (asks (asked g))
 accepted : (g : Begins) → refusal (begin (x (starting g)) (asked g).before.operation_at-op.result) (was (starting g)) ≡ 0
 accepted g =
     let b = starting g in let t = turn (measured b) in
-    begin-runs (top t).loop-record.invariant (good t) b.if-n-x.left _ _ (rows (asked g)) g.if-begin_refusal-ne0.left
+    begin-runs (top t).loop-record.invariant (good t) b.if-n-x.false _ _ (rows (asked g)) g.if-begin_refusal-ne0.false
 
 -- the thread whose queue is joined is known
 abbrev Joins : Type 0
@@ -301,7 +301,7 @@ loop-again-3 : tie.Need-loop-preserved-3 invariant-loop2 decreases-loop2 invaria
 unfolding at
 loop-again-3 c =
     let s = c.before.before.before in let b = below s in let m = measured b in let t = turn m in
-    way_step (top t).loop-record.invariant (good t) (to m) (passes m) b.if-n-x.left s.if-kind-eq-STEP.true _ _ _
+    way_step (top t).loop-record.invariant (good t) (to m) (passes m) b.if-n-x.false s.if-kind-eq-STEP.true _ _ _
     (held_stays _ _ (runs b) (shaped b) c.if-own.true)
 
 other-number-requires : tie.Need-other_number-other_number-requires invariant-loop2 decreases-loop2 invariant-loop decreases-loop
@@ -332,45 +332,45 @@ loop-again-4 : tie.Need-loop-preserved-4 invariant-loop2 decreases-loop2 invaria
 unfolding at put
 loop-again-4 c =
     let e = ends c in let d = stepped e in let p = both d in let b = stepping d in let m = measured b in let t = turn m in
-    way_step (top t).loop-record.invariant (good t) (to m) (passes m) b.if-n-x.left (steps p).if-kind-eq-STEP.taken _ _ _
+    way_step (top t).loop-record.invariant (good t) (to m) (passes m) b.if-n-x.false (steps p).if-kind-eq-STEP.true _ _ _
     (stepped-to-end _ _ (runs b) (shaped b) _ _ (finds p) p.other_or_own-j.ensures (free p)
     d.step_threads-change.result d.step_threads-change.ensures.0 _ d.step_threads-change.ensures.1 _ _
-    (sym e.if-is_ending.taken ∙ e.before.is_ending.ensures) c.before.before.end_threads-both.ensures)
+    (sym e.if-is_ending.true ∙ e.before.is_ending.ensures) c.before.before.end_threads-both.ensures)
 
 -- nothing ends with it
 loop-again-5 : tie.Need-loop-preserved-5 invariant-loop2 decreases-loop2 invariant-loop decreases-loop
 unfolding at put
 loop-again-5 c =
     let h = half c in let d = on h in let p = both d in let b = stepping d in let m = measured b in let t = turn m in
-    way_step (top t).loop-record.invariant (good t) (to m) (passes m) b.if-n-x.left (steps p).if-kind-eq-STEP.taken _ _ _
+    way_step (top t).loop-record.invariant (good t) (to m) (passes m) b.if-n-x.false (steps p).if-kind-eq-STEP.true _ _ _
     (stepped_on _ _ (runs b) (shaped b) _ _ (finds p) p.other_or_own-j.ensures (free p)
     d.step_threads-change.result d.step_threads-change.ensures.0 _ d.step_threads-change.ensures.1 _ _
-    (sym h.before.if-is_ending.left ∙ h.before.before.is_ending.ensures) c.change_own.ensures h.change_other.ensures)
+    (sym h.before.if-is_ending.false ∙ h.before.before.is_ending.ensures) c.change_own.ensures h.change_other.ensures)
 
 -- ---- a cancel
 loop-again-6 : tie.Need-loop-preserved-6 invariant-loop2 decreases-loop2 invariant-loop decreases-loop
 unfolding at
 loop-again-6 c =
     let k = c.before.before in let b = cancelling k in let m = measured b in let t = turn m in
-    way_owned (top t).loop-record.invariant (good t) (to m) (passes m) b.if-n-x.left k.if-kind-eq-CANCEL.true c.if-own-2.true
+    way_owned (top t).loop-record.invariant (good t) (to m) (passes m) b.if-n-x.false k.if-kind-eq-CANCEL.true c.if-own-2.true
 
 loop-again-7 : tie.Need-loop-preserved-7 invariant-loop2 decreases-loop2 invariant-loop decreases-loop
 unfolding at put
 loop-again-7 c =
     let k = cancels c in let b = cancelling k in let m = measured b in let t = turn m in
-    way_cancel (top t).loop-record.invariant (good t) (to m) (passes m) b.if-n-x.left k.if-kind-eq-CANCEL.taken c.before.if-own-2.false _ c.mark_running.ensures
+    way_cancel (top t).loop-record.invariant (good t) (to m) (passes m) b.if-n-x.false k.if-kind-eq-CANCEL.true c.before.if-own-2.false _ c.mark_running.ensures
 
 -- ---- a begin
 operation-at-requires : tie.Need-operation_at-op-requires invariant-loop2 decreases-loop2 invariant-loop decreases-loop
 operation-at-requires c κs =
     let b = beginning c in let t = turn (measured b) in
-    (must_begin _ (good t) b.before.if-kind-eq-TICK.left c.before.before.if-kind-eq-STEP.false c.if-kind-eq-CANCEL.false, lawful-long _ false (good t))
+    (must_begin _ (good t) b.before.if-kind-eq-TICK.false c.before.before.if-kind-eq-STEP.false c.if-kind-eq-CANCEL.false, lawful-long _ false (good t))
 
 loop-again-8 : tie.Need-loop-preserved-8 invariant-loop2 decreases-loop2 invariant-loop decreases-loop
 loop-again-8 c =
     let a = c.before in let e = asks a in let b = beginning e in let m = measured b in let t = turn m in
-    way_refused (top t).loop-record.invariant (good t) (to m) (passes m) b.if-n-x.left
-    b.before.if-kind-eq-TICK.left e.before.before.if-kind-eq-STEP.left e.if-kind-eq-CANCEL.left _ a.before.operation_at-op.ensures _ (rows a) c.if-begin_refusal-ne0.true
+    way_refused (top t).loop-record.invariant (good t) (to m) (passes m) b.if-n-x.false
+    b.before.if-kind-eq-TICK.false e.before.before.if-kind-eq-STEP.false e.if-kind-eq-CANCEL.false _ a.before.operation_at-op.ensures _ (rows a) c.if-begin_refusal-ne0.true
 
 join-queue-requires : tie.Need-join_queue-requires invariant-loop2 decreases-loop2 invariant-loop decreases-loop
 unfolding at
@@ -383,25 +383,25 @@ unfolding at put
 loop-again-9 c =
     let q = joined c in let j = joins q in let g = begins j in
     let a = asked g in let e = asks a in let b = beginning e in let m = measured b in let t = turn m in
-    way_begin (top t).loop-record.invariant (good t) (to m) (passes m) b.if-n-x.left
-    b.before.if-kind-eq-TICK.left e.before.before.if-kind-eq-STEP.left e.if-kind-eq-CANCEL.left _ a.before.operation_at-op.ensures _ (rows a) g.if-begin_refusal-ne0.left _ _ _
+    way_begin (top t).loop-record.invariant (good t) (to m) (passes m) b.if-n-x.false
+    b.before.if-kind-eq-TICK.false e.before.before.if-kind-eq-STEP.false e.if-kind-eq-CANCEL.false _ a.before.operation_at-op.ensures _ (rows a) g.if-begin_refusal-ne0.false _ _ _
     (begin-leaves _ _ _ (accepted g) _ j.before.before.before.zero_thread.ensures _ (sized b) _ _ _
     q.join_queue.ensures c.begin_own.ensures j.joined_thread-j.ensures)
 
 -- ---- the end
 add-t107 : tie.Need-overflow_add-playback invariant-loop2 decreases-loop2 invariant-loop decreases-loop
-add-t107 c = let l = last c.before.before.before in omega (arith, l.loop-record.invariant.within, (start l).pre.room)
+add-t107 c = let l = last c.before.before.before in omega (arith, l.loop-record.invariant.within, (start l).requires.room)
 
 same_length : tie.Need-shape_of-store invariant-loop2 decreases-loop2 invariant-loop decreases-loop
 same_length c =
     let l = last c.before.before.before in
-    l.loop-record.invariant.runnable.words ∙ ap (λ (k : ℕ). 8 * k) l.loop-record.invariant.size ∙ sym (start l).pre.words
+    l.loop-record.invariant.runnable.words ∙ ap (λ (k : ℕ). 8 * k) l.loop-record.invariant.size ∙ sym (start l).requires.words
 
 returns : tie.Need-returns invariant-loop2 decreases-loop2 invariant-loop decreases-loop
 returns c =
     let o = c.before.before.before in let l = last o in (
       goes_last l.loop-record.invariant (sym o.before.is_lawful.ensures ∙ o.loop-record-test.false) _ refl _ c.before.is_whole-bad.ensures,
-      goes_further l.loop-record.invariant (start l).pre refl _ refl,
+      goes_further l.loop-record.invariant (start l).requires refl _ refl,
     )
 
 pub play_spec : {M : Type 1} → statement M

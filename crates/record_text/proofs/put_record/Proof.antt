@@ -39,7 +39,7 @@ returns-3 c =
     let step = named.before.before.before in
     let begin = step.before in
     let table = begin.before.before in (
-      rw (line_of_step table.before.before.args.item (ne_eqb _ _ table.if1.false) (sym begin.before.is-begin.ensures ∙ begin.if2.false) (eq-eqb _ _ step.if3.true)) named.put_named-then-kind-eq-STEP.ensures,
+      rw (line_of_step table.before.before.args.item (ne_eqb _ _ table.if1.false) (sym begin.before.is_begin.ensures ∙ begin.if2.false) (eq-eqb _ _ step.if3.true)) named.put_named-then-kind-eq-STEP.ensures,
       short table.before.before,
     )
 
@@ -51,7 +51,7 @@ returns-4 c =
     let step = cancel.before in
     let begin = step.before in
     let table = begin.before.before in (
-      rw (line_of_cancel table.before.before.args.item (ne_eqb _ _ table.if1.false) (sym begin.before.is-begin.ensures ∙ begin.if2.false) (ne_eqb _ _ step.if3.false) (eq-eqb _ _ cancel.if4.true)) named.put_named-then-kind-eq-CANCEL.ensures,
+      rw (line_of_cancel table.before.before.args.item (ne_eqb _ _ table.if1.false) (sym begin.before.is_begin.ensures ∙ begin.if2.false) (ne_eqb _ _ step.if3.false) (eq-eqb _ _ cancel.if4.true)) named.put_named-then-kind-eq-CANCEL.ensures,
       short table.before.before,
     )
 
@@ -63,7 +63,7 @@ returns-5 c =
     let step = cancel.before in
     let begin = step.before in
     let table = begin.before.before in (
-      rw (line_of_tick table.before.before.args.item (ne_eqb _ _ table.if1.false) (sym begin.before.is-begin.ensures ∙ begin.if2.false) (ne_eqb _ _ step.if3.false) (ne_eqb _ _ cancel.if4.false)) named.put_text.ensures,
+      rw (line_of_tick table.before.before.args.item (ne_eqb _ _ table.if1.false) (sym begin.before.is_begin.ensures ∙ begin.if2.false) (ne_eqb _ _ step.if3.false) (ne_eqb _ _ cancel.if4.false)) named.put_text.ensures,
       short table.before.before,
     )
 

@@ -28,7 +28,7 @@ abbrev neither-read : Neither → Read
 neither-read w = w.before.before
 
 -- what it says
-neither : (w : Neither) → w.row.result ≡ first_refusal (neither_part (entry (neither-read w)).args.op ∷ [])
+neither : (w : Neither) → w.row-neither.result ≡ first_refusal (neither_part (entry (neither-read w)).args.op ∷ [])
 unfolding neither_part
 neither w =
     let r = neither-read w in
@@ -45,7 +45,7 @@ abbrev itself-read : Itself → Read
 itself-read w = neither-read (to-neither w)
 
 -- what it says
-itself : (w : Itself) → let a = (entry (itself-read w)).args in w.row2.result ≡ first_refusal (with_itself a.x a.op ∷ [])
+itself : (w : Itself) → let a = (entry (itself-read w)).args in w.row-itself.result ≡ first_refusal (with_itself a.x a.op ∷ [])
 unfolding with_itself
 itself w =
     let a = (entry (itself-read w)).args in
@@ -62,7 +62,7 @@ abbrev partner-read : Partner → Read
 partner-read w = itself-read (to-itself w)
 
 -- what it says for a table of n threads
-partner : (w : Partner) → let a = (entry (partner-read w)).args in (t : Table) → t.n ≡ a.n → w.row3.result ≡ first_refusal (no_partner t a.op ∷ [])
+partner : (w : Partner) → let a = (entry (partner-read w)).args in (t : Table) → t.n ≡ a.n → w.row-partner.result ≡ first_refusal (no_partner t a.op ∷ [])
 unfolding no_partner
 partner w t e =
     let a = (entry (partner-read w)).args in
@@ -79,7 +79,7 @@ abbrev nobody-read : Nobody → Read
 nobody-read w = partner-read (to-partner w)
 
 -- what it says
-nobody : (w : Nobody) → w.row4.result ≡ first_refusal (no_member (entry (nobody-read w)).args.op ∷ [])
+nobody : (w : Nobody) → w.row-nobody.result ≡ first_refusal (no_member (entry (nobody-read w)).args.op ∷ [])
 unfolding no_member
 nobody w = w.row-nobody.ensures ∙ row_as 15 _ _ w.before.is_empty.ensures
 
@@ -108,7 +108,7 @@ abbrev time-read : Time → Read
 time-read w = words-read (to-words w)
 
 -- what it says
-time : (w : Time) → w.row5.result ≡ first_refusal (bad_time (entry (time-read w)).args.op ∷ [])
+time : (w : Time) → w.row-time.result ≡ first_refusal (bad_time (entry (time-read w)).args.op ∷ [])
 unfolding bad_time
 time w =
     let r = time-read w in

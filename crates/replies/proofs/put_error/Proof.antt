@@ -15,7 +15,7 @@ returns c =
     let text2-done = reason-done.before.before.before.before in
     let number-done = text2-done.before.before.before.before.before in
     let text-done = number-done.before.before.before.before in
-    text-done.put-text.ensures then number-done.put-number.ensures then text2-done.put_text-spaced.ensures then reason-done.put_reason-told.ensures then named-done.put_named-ended.ensures then byte-done.put_byte.ensures
+    text-done.put_text-named.ensures then number-done.put_number-numbered.ensures then text2-done.put_text-spaced.ensures then reason-done.put_reason-told.ensures then named-done.put_named-ended.ensures then byte-done.put_byte.ensures
 
 pub put_error_spec : {M : Type 1} → statement M
 put_error_spec =

@@ -14,7 +14,7 @@ returns c =
     let named-done = c.before.before in
     let colon-done = named-done.before.before.before.before in
     let test = colon-done.before.before.before in
-    rw (named _ _ (sym test.before.names-word.ensures ∙ test.if1.true)) (colon-done.put_text-end.ensures then named-done.put_text.ensures)
+    rw (named _ _ (sym test.before.names_word.ensures ∙ test.if1.true)) (colon-done.put_text-end.ensures then named-done.put_text.ensures)
 
 -- it is not
 returns-2 : tie.Need-returns

@@ -198,7 +198,7 @@ module _ {M : Type 1} {𝓤 : Ura M} (𝓛 : Logic 𝓤) (at_mem : Memory → SP
     to_report = ((tt, tt, tt, (t, (n, tt)), (table_value t ∷ [], (vint w64 n ∷ [], tt))), tt)
 
     -- it asks nothing of these
-    asks-report : ent 𝓤 (emp 𝓤) (ToReport.pre to_report)
+    asks-report : ent 𝓤 (emp 𝓤) (ToReport.requires to_report)
     asks-report =
         qed 𝓛 [] ∵ nothing ! $ owned ! usize (Is usize) (uint_Makes 𝓛 w64) n (vint w64 n ∷ []) (refl, room.0) $ fjoin ! $
         owned ! table.the_row (Is table.the_row) (struct.makes table.the_type table-laws.the_plain 𝓛) t (table_value t ∷ []) table_is $ fjoin ! $ nothing ! $ join ! $ frame ! $ done !
@@ -210,7 +210,7 @@ module _ {M : Type 1} {𝓤 : Ura M} (𝓛 : Logic 𝓤) (at_mem : Memory → SP
       to_read i = ((tt, tt, tt, (r, (i, tt)), (report_value r ∷ [], (vint w64 i ∷ [], tt))), tt)
 
       -- it asks nothing of these
-      asks_read : (i : ℕ) → i < 2 ^ 64 → ent 𝓤 (emp 𝓤) (ToRead.pre (to_read i))
+      asks_read : (i : ℕ) → i < 2 ^ 64 → ent 𝓤 (emp 𝓤) (ToRead.requires (to_read i))
       asks_read i fits =
           qed 𝓛 [] ∵ nothing ! $ owned ! usize (Is usize) (uint_Makes 𝓛 w64) i (vint w64 i ∷ []) (refl, fits) $ fjoin ! $
           owned ! report.the_row (Is report.the_row) (struct.makes report.the_type report-laws.the_plain 𝓛) r (report_value r ∷ []) report-is $ fjoin ! $ nothing ! $ join ! $ frame ! $ done !
@@ -291,7 +291,7 @@ module _ {M : Type 1} {𝓤 : Ura M} (𝓛 : Logic 𝓤) (at_mem : Memory → SP
             assigns ! (bin ! (local ! 14 refl) (load ! (from ! (fld ! refl (stop !))) (look_in ! 16 (sub ! 1 refl (whole !)))) tt) (from ! (stop !)) (init ! 10 refl (tt, tt)) $
             rewrite ! 10 (λ (c : Bool). ‵ (fat full_share ty_bool l₆ 0 (vbool c))) less refl $ stays ! (local ! 10 refl) $
             -- the call. What it asks, and later what its result u owns, is entry 0, and every other entry stands one further
-            use0 𝓛 (raw (ToRead.pre (to_read i.0))) (asks_read i.0 i-fits) $
+            use0 𝓛 (raw (ToRead.requires (to_read i.0))) (asks_read i.0 i-fits) $
             calls_at ! (fm_of 𝓤 H 𝓛.laws 𝓣) ToRead reads (to_read i.0) (and_then ! (local ! 17 refl) (and_then ! (local ! 15 refl) (no_more !))) (λ v.
             returned ! tt outcome.the_row (read_clause r i.0) (λ u. u ≡ get_or r.outcomes i.0 zero_outcome) (says-read r i.0) v (λ u e is.
             land ! (from ! (stop !)) (init ! 9 refl ((struct.lawful outcome.the_type outcome-laws.the_laws 𝓛).typed u _ is).0) $
@@ -371,7 +371,7 @@ module _ {M : Type 1} {𝓤 : Ura M} (𝓛 : Logic 𝓤) (at_mem : Memory → SP
         pass1 ! (init ! 16 refl ((struct.lawful table.the_type table-laws.the_laws 𝓛).typed t _ table_is).0) $ pass1 ! (init ! 14 refl (tt, (tt, (record { fits = room.0 }, tt)))) $ pass0 ! $
         assigns ! (of_opd ! (load ! (from ! (fld ! refl (stop !))) (look_in ! 14 (sub ! 1 refl (whole !))))) (from ! (stop !)) (init ! 8 refl (tt, record { fits = room.0 })) $
         -- the call, whose result r lies in local 3
-        use0 𝓛 (raw (ToReport.pre to_report)) asks-report $
+        use0 𝓛 (raw (ToReport.requires to_report)) asks-report $
         calls_at ! (fm_of 𝓤 H 𝓛.laws 𝓣) ToReport reports to_report (and_then ! (local ! 17 refl) (and_then ! (local ! 9 refl) (no_more !))) (λ v.
         returned ! tt report.the_row (report_clause t n) (Reported t n) (says-report t n) v (λ r made is. drop ! $
         land ! (from ! (stop !)) (init ! 12 refl ((struct.lawful report.the_type report-laws.the_laws 𝓛).typed r _ is).0) $

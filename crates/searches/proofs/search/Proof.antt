@@ -40,11 +40,11 @@ module _ (m : NumberTested) (z : m.number_refusal-second.result ≡ 0) where
 
   -- and in the array
   in_array : (entry m).args.thread < 32
-  in_array = omega (arith, table-few (table m) _ m.before.before.table_refusal-first.ensures m.before.if-first-ne0.left, below)
+  in_array = omega (arith, table-few (table m) _ m.before.before.table_refusal-first.ensures m.before.if-first-ne0.false, below)
 
   -- and its queue is not too long
   queue-short : (at (table m) (entry m).args.thread).queue.len ≤ 32
-  queue-short = queue-fits (table m) _ (table-formed (table m) _ m.before.before.table_refusal-first.ensures m.before.if-first-ne0.left) below
+  queue-short = queue-fits (table m) _ (table-formed (table m) _ m.before.before.table_refusal-first.ensures m.before.if-first-ne0.false) below
 
 -- ---- the needs
 -- a row on the table refuses

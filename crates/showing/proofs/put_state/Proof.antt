@@ -14,7 +14,7 @@ returns c =
     let text2-done = flags-done.before.before.before.before in
     let number-done = text2-done.before.before.before.before.before in
     let text-done = number-done.before.before.before.before.before in
-    text-done.put-text.ensures then number-done.put-number.ensures then text2-done.put_text-second.ensures then flags-done.put_flags-flagged.ensures then left-done.put_left.ensures
+    text-done.put_text-first.ensures then number-done.put_number-phased.ensures then text2-done.put_text-second.ensures then flags-done.put_flags-flagged.ensures then left-done.put_left.ensures
 
 pub put_state_spec : {M : Type 1} → statement M
 put_state_spec =

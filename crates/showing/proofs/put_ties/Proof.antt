@@ -13,7 +13,7 @@ returns c =
     let used-done = used2-done.before.before.before.before.before in
     let number-done = used-done.before.before.before.before.before in
     let text-done = number-done.before.before.before.before.before in
-    text-done.put-text.ensures then number-done.put-number.ensures then used-done.put-used.ensures then used2-done.put_used.ensures
+    text-done.put_text-named.ensures then number-done.put_number-owned.ensures then used-done.put_used-copied.ensures then used2-done.put_used.ensures
 
 pub put_ties_spec : {M : Type 1} → statement M
 put_ties_spec =

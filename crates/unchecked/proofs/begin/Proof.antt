@@ -46,7 +46,7 @@ unfolding at
 join-queue-requires c κs =
     let j = c.before in
     let s = entry (zeroed j) in
-    joined-room _ _ _ s.pre _ refl _ j.joined_thread-j.ensures (accepted-shaped _ _ s.pre _ s.good.0)
+    joined-room _ _ _ s.requires _ refl _ j.joined_thread-j.ensures (accepted-shaped _ _ s.requires _ s.good.0)
 
 element-set-from-own : tie.Need-bounds-next-j-2
 element-set-from-own q = joined-there (joins q)
@@ -66,7 +66,7 @@ returns c =
     let q = c.before.before in
     let j = joins q in
     let z = zeroed j in
-    begin-leaves _ _ _ (entry z).pre _ z.zero_thread.ensures _ refl _ _ _ q.join_queue.ensures c.begin_own.ensures j.joined_thread-j.ensures
+    begin-leaves _ _ _ (entry z).requires _ z.zero_thread.ensures _ refl _ _ _ q.join_queue.ensures c.begin_own.ensures j.joined_thread-j.ensures
 
 pub begin_spec : {M : Type 1} → statement M
 begin_spec =

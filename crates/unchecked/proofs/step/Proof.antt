@@ -46,7 +46,7 @@ finds b = b.before.other_number-other_number.ensures
 
 -- the thread that is read as the other one has a place in the array
 other-there : (b : Both) → b.other_or_own-j.result < 32
-other-there b = let s = entry (read b) in other-in-array s.args.x _ s.pre (shaped s) _ _ (finds b) b.other_or_own-j.ensures
+other-there b = let s = entry (read b) in other-in-array s.args.x _ s.requires (shaped s) _ _ (finds b) b.other_or_own-j.ensures
 
 -- the two threads have stepped
 abbrev Stepped : Type 0
@@ -80,11 +80,11 @@ element-copy-out-own c = own-there c.before
 -- the lock is owned: thread x is held
 returns : tie.Need-returns-then-own
 unfolding at
-returns c = let s = entry c.before in held_stays s.args.x _ s.pre (shaped s) c.if-own.true
+returns c = let s = entry c.before in held_stays s.args.x _ s.requires (shaped s) c.if-own.true
 
 other-number-requires : tie.Need-other_number-other_number-requires
 unfolding at
-other-number-requires c κs = let s = entry c.before in queue-fits s.args.x _ s.pre (shaped s)
+other-number-requires c κs = let s = entry c.before in queue-fits s.args.x _ s.requires (shaped s)
 
 element-copy-out-other : tie.Need-bounds-table-j
 element-copy-out-other b = other-there b
@@ -93,15 +93,15 @@ part-step-threads-end : tie.Need-slice_bounds-step_threads-end
 part-step-threads-end c =
     let b = c.before in
     let s = entry (read b) in
-    slice-ends s.args.x _ s.pre (shaped s) _ _ (finds b) b.other_or_own-j.ensures
+    slice-ends s.args.x _ s.requires (shaped s) _ _ (finds b) b.other_or_own-j.ensures
 
 step-threads-requires : tie.Need-step_threads-change-requires
 unfolding at
 step-threads-requires c κs =
     let b = c.before.before in
     let s = entry (read b) in (
-      fits-here s.args.x _ s.pre (shaped s) _ _ (finds b) b.other_or_own-j.ensures,
-      slice-eight s.args.x _ s.pre (shaped s) _ _ (finds b) b.other_or_own-j.ensures,
+      fits-here s.args.x _ s.requires (shaped s) _ _ (finds b) b.other_or_own-j.ensures,
+      slice-eight s.args.x _ s.requires (shaped s) _ _ (finds b) b.other_or_own-j.ensures,
     )
 
 end-threads-requires : tie.Need-end_threads-both-requires
@@ -110,7 +110,7 @@ end-threads-requires c κs =
     let d = ends-stepped c in
     let b = both d in
     let s = entry (read b) in
-    ending-waits s.args.x _ s.pre (shaped s) _ _ (finds b) b.other_or_own-j.ensures (free b) d.step_threads-change.result d.step_threads-change.ensures.0
+    ending-waits s.args.x _ s.requires (shaped s) _ _ (finds b) b.other_or_own-j.ensures (free b) d.step_threads-change.result d.step_threads-change.ensures.0
 
 element-set-from-theirs : tie.Need-bounds-next-j
 element-set-from-theirs c = other-there (both (ends-stepped c.before.before.before))
@@ -129,7 +129,7 @@ returns-2 c =
     let d = ends-stepped e in
     let b = both d in
     let s = entry (read b) in
-    stepped-to-end s.args.x _ s.pre (shaped s) _ _ (finds b) b.other_or_own-j.ensures (free b)
+    stepped-to-end s.args.x _ s.requires (shaped s) _ _ (finds b) b.other_or_own-j.ensures (free b)
     d.step_threads-change.result d.step_threads-change.ensures.0 _ d.step_threads-change.ensures.1 _ _
     (sym e.if-is_ending.true ∙ e.before.is_ending.ensures) c.before.before.end_threads-both.ensures
 
@@ -150,7 +150,7 @@ returns-3 c =
     let d = goes-stepped g in
     let b = both d in
     let s = entry (read b) in
-    stepped_on s.args.x _ s.pre (shaped s) _ _ (finds b) b.other_or_own-j.ensures (free b)
+    stepped_on s.args.x _ s.requires (shaped s) _ _ (finds b) b.other_or_own-j.ensures (free b)
     d.step_threads-change.result d.step_threads-change.ensures.0 _ d.step_threads-change.ensures.1 _ _
     (sym g.if-is_ending.false ∙ g.before.is_ending.ensures) c.change_own.ensures c.before.change_other.ensures
 

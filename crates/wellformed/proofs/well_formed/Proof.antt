@@ -1,5 +1,5 @@
 use mathlib.Core.Path.{◌≡◌, sym, ◌∙◌}
-use mathlib.Core.Logic.{inl, inr}
+use Rattle.wellformed.proofs.well_formed.Lts.{then-to-n+else-not-is_ready, else-to-n}
 use mathlib.Core.Bool.{true}
 use Prim.Native.Nat.{◌≤◌, ◌<◌, ◌-◌}
 use native.Mathlib.Omega.{arith}
@@ -37,7 +37,7 @@ table p = p.before.before.before.before.before.before.args.table
 
 -- its rules fit
 fit : (p : Top) → rules_fit (table p).n (table p).rules ≡ true
-fit p = let r = p.before in sym r.before.rules_fit.ensures ∙ not-false r.before.rules_fit.result r.if-not-rules_fit.left
+fit p = let r = p.before in sym r.before.rules_fit.ensures ∙ not-false r.before.rules_fit.result r.if-not-rules_fit.false-raw
 
 -- thread x is tested by itself
 abbrev AloneTested : Type 0
@@ -58,11 +58,11 @@ own : (k : Copies) → let p = top (alone-tested k) in Own (table p).n p.loop-x.
 unfolding at
 own k =
     let h = alone-tested k in
-    own-told _ _ _ (sym h.thread_alone.ensures ∙ not-false h.thread_alone.result k.before.if-not-thread_alone.left) ((top h).loop-x.invariant.1.queues _ (search rules))
+    own-told _ _ _ (sym h.thread_alone.ensures ∙ not-false h.thread_alone.result k.before.if-not-thread_alone.false-raw) ((top h).loop-x.invariant.1.queues _ (search rules))
 
 -- that thread has passed its test
 abbrev CopyPassed : Type 0
-CopyPassed = tie.Joined5 invariant-loop decreases-loop
+CopyPassed = tie.Joined-to-n invariant-loop decreases-loop
 
 abbrev copies : CopyPassed → Copies
 copies j = j.before
@@ -71,9 +71,9 @@ copies j = j.before
 copy : (j : CopyPassed) → let k = copies j in let p = top (alone-tested k) in let to = k.copies_to-to.result in
     to < (table p).n → ready (at (table p) to) p.loop-x.x ≡ true
 unfolding at
-copy j l = elim j.if-to-n.came [
-  | inl w ↦ sym w.2.ensures ∙ not-false w.2.result w.3.left
-  | inr w ↦ absurd (omega (arith, w.left))
+copy j l = elim j.if-to-n.branch [
+  | then-to-n+else-not-is_ready w ↦ sym w.is_ready.ensures ∙ w.if-not-is_ready.false
+  | else-to-n w ↦ absurd (omega (arith, w.if-to-n.false))
 ]
 
 -- the waiting senders of thread x are entered, or not all are free

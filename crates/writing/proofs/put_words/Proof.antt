@@ -22,7 +22,7 @@ Top = tie.At-loop-i invariant-loop decreases-loop
 
 -- there, what was asked at the entry
 asked : (p : Top) → 42 ≤ length p.before.before.args.bytes.now
-asked p = p.before.before.pre
+asked p = p.before.before.requires
 
 -- ---- the needs
 loop-holds : tie.Need-loop-i-init invariant-loop decreases-loop

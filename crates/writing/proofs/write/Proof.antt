@@ -22,7 +22,7 @@ abbrev entry : Spelled → tie.Start
 entry s = s.before.before
 
 -- so it has the 46 bytes of one
-whole : (s : Spelled) → length s.spell.result ≡ 46
+whole : (s : Spelled) → length s.spell-space.result ≡ 46
 whole s = search rules
 
 -- it is tested whether its operation is one of its kind
@@ -40,7 +40,7 @@ abbrev kind-tested : LawfulTested → KindTested
 kind-tested l = l.before.before.before
 
 -- its operation is one of its kind
-fitting : (l : LawfulTested) → let s = spelled (kind-tested l) in fits_kind (entry s).args.item.kind (entry s).args.item.op.receive s.spell.result ≡ true
+fitting : (l : LawfulTested) → let s = spelled (kind-tested l) in fits_kind (entry s).args.item.kind (entry s).args.item.op.receive s.spell-space.result ≡ true
 fitting l = let k = kind-tested l in sym k.fits_kind.ensures ∙ not-false k.fits_kind.result l.before.before.if-not-fits_kind.false-raw
 
 -- they are, and the record's length is known
@@ -51,7 +51,7 @@ abbrev lawful-tested : Measured → LawfulTested
 lawful-tested m = m.before.before
 
 -- its bytes are lawful
-lawfully : (m : Measured) → let s = spelled (kind-tested (lawful-tested m)) in lawful (entry s).args.first (front s.spell.result) ≡ true
+lawfully : (m : Measured) → let s = spelled (kind-tested (lawful-tested m)) in lawful (entry s).args.first (front s.spell-space.result) ≡ true
 lawfully m = let l = lawful-tested m in sym l.is_lawful.ensures ∙ not-false l.is_lawful.result m.before.if-not-is_lawful.false-raw
 
 -- the length is that of the record's kind
@@ -59,7 +59,7 @@ long : (m : Measured) → m.record_length-n.result ≡ record_length (entry (spe
 long m = m.record_length-n.ensures
 
 -- the record is not longer than what is spelled
-within : (m : Measured) → m.record_length-n.result ≤ length (spelled (kind-tested (lawful-tested m))).spell.result
+within : (m : Measured) → m.record_length-n.result ≤ length (spelled (kind-tested (lawful-tested m))).spell-space.result
 within m = let s = spelled (kind-tested (lawful-tested m)) in omega (arith, long m, record_fits _ _ s.spell-space.ensures (whole s))
 
 -- ---- the needs

@@ -35,7 +35,7 @@ returns-2 c =
     let at-if1 = at-is-word.before.before.before in
     let at-next-word = at-if1.before in
     let turn = at-next-word.before in
-    spells_as (words-receive _ _ _ _ _ at-next-word.next_word.ensures at-if1.if1.false (sym at-is-word.is_IsWord.ensures ∙ c.before.if-is_word.true) ∙ turn.loop.invariant.1) c.read_receive-then-is_word.ensures
+    spells_as (words-receive _ _ _ _ _ at-next-word.next_word-span.ensures at-if1.if1.false (sym at-is-word.is_IsWord.ensures ∙ c.before.if-is_word.true) ∙ turn.loop.invariant.1) c.read_receive-then-is_word.ensures
 
 -- what is no word of a message
 returns-3 : tie.Need-returns-then-amount-ne0 invariant-loop decreases-loop
@@ -47,14 +47,14 @@ returns-3 c =
     let at-if1 = at-is-word.before.before.before in
     let at-next-word = at-if1.before in
     let turn = at-next-word.before in
-    rw c.misspelled.ensures (spells_as turn.loop.invariant.1 (words-wrong _ _ _ _ _ at-next-word.next_word.ensures at-if1.if1.false (sym at-is-word.is_IsWord.ensures ∙ at-if2.if-is_word.false) _ at-amount-of.amount_of-amount.ensures c.before.if-amount-ne0.true))
+    rw c.misspelled.ensures (spells_as turn.loop.invariant.1 (words-wrong _ _ _ _ _ at-next-word.next_word-span.ensures at-if1.if1.false (sym at-is-word.is_IsWord.ensures ∙ at-if2.if-is_word.false) _ at-amount-of.amount_of-amount.ensures c.before.if-amount-ne0.true))
 
 -- a word has a byte
 loop-less : tie.Need-loop-send-smaller invariant-loop decreases-loop
 loop-less c =
     let at-if1 = c.before.before.before.before.before.before.before.before in
     let at-next-word = at-if1.before in
-    omega (arith, at-next-word.next_word.ensures.after, at-next-word.next_word.ensures.ordered, at-next-word.next_word.ensures.within, at-if1.if1.false)
+    omega (arith, at-next-word.next_word-span.ensures.after, at-next-word.next_word-span.ensures.ordered, at-next-word.next_word-span.ensures.within, at-if1.if1.false)
 
 -- what is one
 loop-again : tie.Need-loop-send-preserved invariant-loop decreases-loop
@@ -66,7 +66,7 @@ loop-again c =
     let at-if1 = at-is-word.before.before.before in
     let at-next-word = at-if1.before in
     let turn = at-next-word.before in
-    (at-next-word.next_word.ensures.within, rw c.with_word-send.ensures (words_more _ _ _ _ _ at-next-word.next_word.ensures at-if1.if1.false (sym at-is-word.is_IsWord.ensures ∙ at-if2.if-is_word.false) _ at-amount-of.amount_of-amount.ensures c.before.if-amount-ne0.false ∙ turn.loop.invariant.1))
+    (at-next-word.next_word-span.ensures.within, rw c.with_word-send.ensures (words_more _ _ _ _ _ at-next-word.next_word-span.ensures at-if1.if1.false (sym at-is-word.is_IsWord.ensures ∙ at-if2.if-is_word.false) _ at-amount-of.amount_of-amount.ensures c.before.if-amount-ne0.false ∙ turn.loop.invariant.1))
 
 pub read_words_spec : {M : Type 1} → statement M
 read_words_spec = tie.close (tie.spec invariant-loop decreases-loop loop-holds (λ c κs. search rules) (λ c κs. search rules) returns (λ c. search rules) (λ c. search rules) (λ c. search rules) (λ c. search rules) (λ c κs. search rules) (λ c κs. search rules) returns-2 (λ c κs. search rules) (λ c κs. search rules) returns-3 (λ c κs. search rules) loop-less loop-again)

@@ -63,7 +63,7 @@ with-member-requires c κs = omega (arith, c.low_byte.ensures, thread-small _ _ 
 
 -- what stands behind the word is within the line
 read-one-of-requires : tie.Need-read_one_of-requires invariant-loop decreases-loop
-read-one-of-requires c κs = (entry (piece (thread c.before))).pre.within
+read-one-of-requires c κs = (entry (piece (thread c.before))).requires.within
 
 -- it is the last
 returns-2 : tie.Need-returns-then-stop-end invariant-loop decreases-loop
@@ -71,7 +71,7 @@ returns-2 c =
     let added = c.before.before in
     let known = thread added in
     let at_piece = piece known in
-    let last = members-last _ _ _ (entry at_piece).pre.within at_piece.before.loop-front.invariant _ at_piece.piece_end-stop.ensures _ (number known).amount_of-amount.ensures known.if-amount-ne0.left _ _ added.before.low_byte.ensures added.with_member-set.ensures c.before.if-stop-end.true in
+    let last = members-last _ _ _ (entry at_piece).requires.within at_piece.before.loop-front.invariant _ at_piece.piece_end-stop.ensures _ (number known).amount_of-amount.ensures known.if-amount-ne0.false _ _ added.before.low_byte.ensures added.with_member-set.ensures c.before.if-stop-end.true in
     spells_as (ap (read_one_of (entry at_piece).args.send) last) c.read_one_of.ensures
 
 -- more follow: the piece ends before the word does
@@ -94,7 +94,7 @@ loop-again c =
     let added = c.before in
     let known = thread added in
     let at_piece = piece known in
-    members-more _ _ _ (entry at_piece).pre.within at_piece.before.loop-front.invariant _ at_piece.piece_end-stop.ensures _ (number known).amount_of-amount.ensures known.if-amount-ne0.left _ _ added.before.low_byte.ensures added.with_member-set.ensures c.if-stop-end.false
+    members-more _ _ _ (entry at_piece).requires.within at_piece.before.loop-front.invariant _ at_piece.piece_end-stop.ensures _ (number known).amount_of-amount.ensures known.if-amount-ne0.false _ _ added.before.low_byte.ensures added.with_member-set.ensures c.if-stop-end.false
 
 pub read_members_spec : {M : Type 1} → statement M
 read_members_spec = tie.close (tie.spec invariant-loop decreases-loop slice-aggregate-front loop-holds piece-end-requires (λ c. search rules) (λ c. search rules) (λ c. search rules) (λ c κs. search rules) (λ c κs. search rules) returns (λ c κs. search rules) with-member-requires read-one-of-requires returns-2 add_start loop-less loop-again)

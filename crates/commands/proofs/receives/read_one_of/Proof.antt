@@ -9,7 +9,7 @@ use Rattle.commands.proofs.receives.read_one_of.Tie as tie
 
 -- there is room for one number
 read-numbers-requires : tie.Need-read_numbers-last-requires
-read-numbers-requires c κs = rw c.before.before.starting-at.ensures (stands-start _ _ c.before.before.before.before.requires, omega arith)
+read-numbers-requires c κs = rw c.before.before.starting_at-from.ensures (stands-start _ _ c.before.before.before.before.requires, omega arith)
 
 -- the cursor stands within the line
 close-requires : tie.Need-close-requires
@@ -21,7 +21,7 @@ unfolding ascii up_to
 returns c =
     let at-read-numbers = c.before.before.before in
     let at-starting-at = at-read-numbers.before.before.before in
-    spells_as (one_of_read _ _ _ _ _ _ _ _ (rw at-starting-at.starting-at.ensures at at-read-numbers.read_numbers-last.ensures)) (rw c.before.low_byte-time.ensures at c.close.ensures)
+    spells_as (one_of_read _ _ _ _ _ _ _ _ (rw at-starting-at.starting_at-from.ensures at at-read-numbers.read_numbers-last.ensures)) (rw c.before.low_byte-time.ensures at c.close.ensures)
 
 pub read_one_of_spec : {M : Type 1} → statement M
 read_one_of_spec = tie.close (tie.spec (λ c κs. search rules) (λ c. search rules) (λ c. search rules) read-numbers-requires (λ c. search rules) (λ c κs. search rules) close-requires returns)

@@ -9,7 +9,7 @@ use Rattle.commands.proofs.receives.read_set.Tie as tie
 
 -- there is room for one number
 read-numbers-requires : tie.Need-read_numbers-last-requires
-read-numbers-requires c κs = rw c.before.before.starting-at.ensures (stands-start _ _ c.before.before.before.before.requires, omega arith)
+read-numbers-requires c κs = rw c.before.before.starting_at-from.ensures (stands-start _ _ c.before.before.before.before.requires, omega arith)
 
 -- the number was not read
 returns : tie.Need-returns-then-reason-ne0
@@ -17,7 +17,7 @@ unfolding ascii up_to
 returns c =
     let at-read-numbers = c.before.before.before in
     let at-starting-at = at-read-numbers.before.before.before in
-    rw c.misspelled.ensures (set-stopped _ _ _ _ _ _ _ (rw at-starting-at.starting-at.ensures at at-read-numbers.read_numbers-last.ensures) c.before.if-reason-ne0.true)
+    rw c.misspelled.ensures (set-stopped _ _ _ _ _ _ _ (rw at-starting-at.starting_at-from.ensures at at-read-numbers.read_numbers-last.ensures) c.before.if-reason-ne0.true)
 
 -- the cursor stands within the line
 read-one-of-requires : tie.Need-read_one_of-requires
@@ -30,7 +30,7 @@ returns-2 c =
     let at-if1 = c.before in
     let at-read-numbers = at-if1.before.before in
     let at-starting-at = at-read-numbers.before.before.before in
-    spells_as (set-read _ _ _ _ _ _ _ (rw at-starting-at.starting-at.ensures at at-read-numbers.read_numbers-last.ensures) at-if1.if-reason-ne0.false) c.read_one_of.ensures
+    spells_as (set-read _ _ _ _ _ _ _ (rw at-starting-at.starting_at-from.ensures at at-read-numbers.read_numbers-last.ensures) at-if1.if-reason-ne0.false) c.read_one_of.ensures
 
 pub read_set_spec : {M : Type 1} → statement M
 read_set_spec = tie.close (tie.spec (λ c κs. search rules) (λ c. search rules) (λ c. search rules) read-numbers-requires (λ c κs. search rules) returns (λ c. search rules) read-one-of-requires returns-2)

@@ -22,7 +22,7 @@ write-records-requires c κs =
     let some = row.before in
     let command = some.before in
     let entry = command.before.before.before.before.before.before.before.before in
-    (asked-bytes command.before.before.before.command.ensures.0 command.if1.false some.if2.false row.if3.false, entry.requires.1)
+    (asked-bytes command.before.before.before.command-parsed.ensures.0 command.if1.false some.if2.false row.if3.false, entry.requires.1)
 
 returns-4 : tie.Need-returns-then-write_records
 returns-4 c =
@@ -31,7 +31,7 @@ returns-4 c =
     let row = counted.before.before.before.before in
     let some = row.before in
     let command = some.before in
-    step-lawful command.before.before.before.command.ensures.0 command.if1.false some.if2.false row.if3.false _
+    step-lawful command.before.before.before.command-parsed.ensures.0 command.if1.false some.if2.false row.if3.false _
     counted.how_many-many.ensures written.write_records.ensures c.if-write_records.true
 
 returns-5 : tie.Need-returns
@@ -41,7 +41,7 @@ returns-5 c =
     let row = written.before.before.before.before.before.before in
     let some = row.before in
     let command = some.before in
-    step-unlawful command.before.before.before.command.ensures.0 command.if1.false some.if2.false row.if3.false _
+    step-unlawful command.before.before.before.command-parsed.ensures.0 command.if1.false some.if2.false row.if3.false _
     written.write_records.ensures refused.if-write_records.false
 
 pub write_line_spec : {M : Type 1} → statement M

@@ -12,7 +12,7 @@ writes-one-requires : tie.Need-writes_one-requires
 writes-one-requires c κs =
     let row = c.before.before.before in
     let command = row.before in
-    asked-bytes command.before.before.before.command.ensures.0 command.if1.false (λ e. omega (arith, e, row.if2.false)) row.if2.false
+    asked-bytes command.before.before.before.command-parsed.ensures.0 command.if1.false (λ e. omega (arith, e, row.if2.false)) row.if2.false
 
 pub respelled_spec : {M : Type 1} → statement M
 respelled_spec =

@@ -34,7 +34,7 @@ returns-2 c =
     let paired = c.before.before in
     let named = paired.before.before.before.before in
     let told = named.before.before.before in
-    of_pair _ (ascii " rows") _ (text_of _ _ told.enum-told2.given.1 (ascii " rows") refl) told.before.pair_of.ensures (named.put_text-end.ensures then paired.put_pair.ensures)
+    of_pair _ (ascii " rows") _ (text_of _ _ told.enum-told2.given.1 (ascii " rows") refl) told.before.pair_of-pair.ensures (named.put_text-end.ensures then paired.put_pair.ensures)
 
 -- a gap
 returns-3 : tie.Need-returns-in-Gap
@@ -43,7 +43,7 @@ returns-3 c =
     let paired = c.before.before in
     let named = paired.before.before.before.before in
     let told = named.before.before.before in
-    of_pair _ (ascii " gap") _ (text_of _ _ told.enum-told3.given.1 (ascii " gap") refl) told.before.pair_of.ensures (named.put_text-end-in-Gap.ensures then paired.put_pair-in-Gap.ensures)
+    of_pair _ (ascii " gap") _ (text_of _ _ told.enum-told3.given.1 (ascii " gap") refl) told.before.pair_of-pair.ensures (named.put_text-end-in-Gap.ensures then paired.put_pair-in-Gap.ensures)
 
 -- an overlap
 returns-4 : tie.Need-returns-in-Overlap
@@ -52,7 +52,7 @@ returns-4 c =
     let paired = c.before.before in
     let named = paired.before.before.before.before in
     let told = named.before.before.before in
-    of_pair _ (ascii " overlap") _ (text_of _ _ told.enum-told4.given.1 (ascii " overlap") refl) told.before.pair_of.ensures (named.put_text-end-in-Overlap.ensures then paired.put_pair-in-Overlap.ensures)
+    of_pair _ (ascii " overlap") _ (text_of _ _ told.enum-told4.given.1 (ascii " overlap") refl) told.before.pair_of-pair.ensures (named.put_text-end-in-Overlap.ensures then paired.put_pair-in-Overlap.ensures)
 
 pub put_misfit_spec : {M : Type 1} → statement M
 put_misfit_spec =

@@ -227,7 +227,7 @@ module _ {M : Type 1} {𝓤 : Ura M} (𝓛 : Logic 𝓤) (at_mem : Memory → SP
     to_report b α γ = (((α ∷ [], tt), (full_share, tt), tt, (t, (borrowed b γ, tt)), (table_value t ∷ [], (slice_value b ∷ [], tt))), tt)
 
     -- it asks for the token and the slice
-    asks : (b α : ℕ) (γ : GName) → ent 𝓤 (sep 𝓤 (A.lft (α ∷ []) full_share) (sem 𝓛 ((MutSlice (named 0) (α ∷ []) Record).own_val (borrowed b γ) (slice_value b ∷ [])))) (ToReport.pre (to_report b α γ))
+    asks : (b α : ℕ) (γ : GName) → ent 𝓤 (sep 𝓤 (A.lft (α ∷ []) full_share) (sem 𝓛 ((MutSlice (named 0) (α ∷ []) Record).own_val (borrowed b γ) (slice_value b ∷ [])))) (ToReport.requires (to_report b α γ))
     asks b α γ =
         qed 𝓛 (‵ (flft (α ∷ []) full_share) ∷ ‵ ((MutSlice (named 0) (α ∷ []) Record).own_val (borrowed b γ) (slice_value b ∷ [])) ∷ []) ∵
         nothing ! $ move ! (1 ∷ 0 ∷ []) $ join ! $ nothing ! $ move ! (2 ∷ 0 ∷ []) $ fjoin ! $
@@ -266,7 +266,7 @@ module _ {M : Type 1} {𝓤 : Ura M} (𝓛 : Logic 𝓤) (at_mem : Memory → SP
         use1 𝓛 (later (some (λ (γ : GName). ‵ ((MutSlice (named 0) (α ∷ []) Record).own_val (borrowed l₄ γ) (slice_value l₄ ∷ [])) ⊛ ‵ (flent (α ∷ []) (Held Record (length front) l₄ 0 γ))))) (lends_slice 𝓛 Record (named 0) (α ∷ []) front l₄ 0 room) $
         await ! tt $ pick ! (λ γ. split ! $
         -- the call
-        move ! (2 ∷ 0 ∷ []) $ use2 𝓛 (raw (ToReport.pre (to_report l₄ α γ))) (asks l₄ α γ) $
+        move ! (2 ∷ 0 ∷ []) $ use2 𝓛 (raw (ToReport.requires (to_report l₄ α γ))) (asks l₄ α γ) $
         calls_at ! (fm_of 𝓤 H 𝓛.laws 𝓣) ToReport reports (to_report l₄ α γ) (and_then ! (local ! 16 refl) (and_then ! (local ! 5 refl) (no_more !))) (λ v.
         use1 𝓛 (later (some (λ (r : Answer). ((‵ (flft (α ∷ []) full_share) ⊛ ‵ ftrue) ⊛ ‵ ((answer.the_row).own_val r (v ∷ [])))
         ⊛ raw (ensured 𝓛 report-into.ended (report-into.clauses 𝓛 at_mem run) (α ∷ [], tt) (t, (borrowed l₄ γ, tt)) tt r)))) (id⊢ 𝓤 _) $ await ! tt $ pick ! (λ r. split ! $ move ! (1 ∷ []) $

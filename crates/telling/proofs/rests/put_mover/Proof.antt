@@ -13,7 +13,7 @@ returns c =
     let ended = c.before.before in
     let said = ended.before.before.before.before in
     let numbered = said.before.before.before.before.before in
-    numbered.put-number.ensures then said.put_text-moves.ensures then ended.put_byte.ensures
+    numbered.put_number-number.ensures then said.put_text-moves.ensures then ended.put_byte.ensures
 
 pub put_mover_spec : {M : Type 1} → statement M
 put_mover_spec = tie.close (tie.spec (λ c κs. search rules) (λ c. search rules) (λ c κs. search rules) (λ c κs. search rules) (λ c. search rules) returns)

@@ -23,7 +23,7 @@ unfolding rest_text ascii up_to
 returns-2 c =
     let told = c.before.before in
     let answered = told.before.before.before in
-    as_said rest_text (ap said_rest (sym answered.enum_told.given.1) ∙ answered.before.rest.ensures) told.put_word.ensures
+    as_said rest_text (ap said_rest (sym answered.enum_told.given.1) ∙ answered.before.rest-answer.ensures) told.put_word.ensures
 
 -- a thread would move
 returns-3 : tie.Need-returns-in-WouldMove

@@ -23,7 +23,7 @@ unfolding search_text ascii up_to
 returns-2 c =
     let told = c.before.before in
     let answered = told.before.before.before in
-    as_said search_text (ap said_search (sym answered.enum_told.given.1) ∙ answered.before.search.ensures) told.put_word.ensures
+    as_said search_text (ap said_search (sym answered.enum_told.given.1) ∙ answered.before.search-answer.ensures) told.put_word.ensures
 
 -- it is
 returns-3 : tie.Need-returns-in-Searched
