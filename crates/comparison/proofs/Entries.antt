@@ -107,11 +107,11 @@ filled-all log whole few senders targets s t all = record {
 -- ---- lengths by type; the projection goes by the place of the field in its struct
 -- an array of entries has its 512 places
 pub entries-whole : (log : Log) (vs : List Val) → shadow (the_row.own_val log vs) → length log.entries ≡ 512
-entries-whole log vs g = simp length-map at g.1.1.0.1.0.1
+entries-whole log vs g = g.1.1.0.1.0.1
 
 -- an array of words its 8
 pub words-whole : (entry : LogEntry) (vs : List Val) → shadow (entryRow.own_val entry vs) → length entry.words ≡ 8
-words-whole entry vs g = simp length-map at g.1.1.1.1.1.0.1.0.1
+words-whole entry vs g = g.1.1.1.1.1.0.1.0.1
 
 -- room for a column of k
 pub column-room : (k : ℕ) (room : List ℕ) → k ≤ log_room → 512 ≡ length room → length (take (k - 0) room) ≡ k

@@ -20,10 +20,10 @@ sent r = (sent-read r).before.before.before.before.before
 
 -- all are read, and lent again
 abbrev Lent : Type 0
-Lent = tie.After-receivers-2-1
+Lent = tie.After-slice_known-4-1
 
 abbrev received-read : Lent → tie.After-read_columns-2
-received-read l = l.before.before.before.before.before.before.before.before
+received-read l = l.before.before.before.before
 
 abbrev received : Lent → Received
 received l = (received-read l).before.before.before.before.before

@@ -46,7 +46,7 @@ unfolding at
 join-queue-requires c κs =
     let j = c.before in
     let s = entry (zeroed j) in
-    joined-room _ _ _ s.requires _ refl _ j.joined_thread-j.ensures (accepted-shaped _ _ s.requires _ s.good.0)
+    joined-room _ _ _ s.requires _ refl _ j.joined_thread-j.ensures (accepted-shaped _ _ s.requires _ s.well_formed.0)
 
 element-set-from-own : tie.Need-bounds-next-j-2
 element-set-from-own q = joined-there (joins q)
