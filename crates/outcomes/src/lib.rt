@@ -58,7 +58,7 @@ pub fn outcome_words<'a>(table: Table, thread: u8, store: &'a [u32]) -> &'a [u32
 pub fn outcome<'a>(table: Table, thread: u8, store: &'a [u32]) -> OutcomeReturned<'a>
     ensures answer { said_outcome result.answer ≡ outcome_answer (state table store.now) thread }
     ensures words { result.words.now ≡ outcome_words (state table store.now) thread }
-    ensures place { (result.words.ptr.0 ≡ store.entry.ref_ptr.0) × (result.words.ptr.1 ≡ store.entry.ref_ptr.1 + 4 * outcome_place (state table store.now) thread) }
+    ensures place { (result.words.ref_ptr.0 ≡ store.entry.ref_ptr.0) × (result.words.ref_ptr.1 ≡ store.entry.ref_ptr.1 + 4 * outcome_place (state table store.now) thread) }
 {
     let answer = outcome_answer(table, thread, store);
     let words = answered_words(answer, thread, store);

@@ -9,7 +9,7 @@ use Rattle.few.proofs.outcomes_of.Tie as tie
 returns : tie.Need-returns
 returns c =
     let s = c.before.before.before.before.before.before.before.before in
-    ap (λ (l : List Thread). map (λ (h : Thread). h.outcome) l) (whole_four s.args.few.threads zero_thread (simp length-map at s.well_formed.0.1.1.1.0.1.0.1))
+    ap (λ (l : List Thread). map (λ (h : Thread). h.outcome) l) (whole_four s.args.few.threads zero_thread s.well_formed.0.1.1.1.0.1.0.1)
 
 pub outcomes_of_spec : {M : Type 1} → statement M
 outcomes_of_spec =

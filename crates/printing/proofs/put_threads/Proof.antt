@@ -53,7 +53,7 @@ loop-again c =
     let entry = turn.before.before.before in
     let t = entry.args.table in
     let reached = turn.loop-x.invariant in
-    let long : length t.threads ≡ 32 = simp length-map at entry.well_formed.0.1.1.1.0.1.0.1 in
+    let long : length t.threads ≡ 32 = entry.well_formed.0.1.1.1.0.1.0.1 in
     elim c.if-i-lt32.branch [
       | inl w ↦ (search rules, rw (w.7, w.8) (one-more-thread _ _ reached.1 (w.4.ensures.0 t refl)), one-more-short _ _ reached.2 (w.4.ensures.1 t refl))
       | inr w ↦

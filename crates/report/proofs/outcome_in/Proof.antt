@@ -12,7 +12,7 @@ zero-outcome-requires c κs = search rules
 returns : tie.Need-returns-then-i-ge32
 returns c =
     let outcomes = c.before.before.args.report.outcomes in
-    let long : length outcomes ≡ 32 = simp length-map at c.before.before.well_formed.0.1.1.1.1.0.1.0.1 in
+    let long : length outcomes ≡ 32 = c.before.before.well_formed.0.1.1.1.1.0.1.0.1 in
     c.zero_outcome.ensures ∙ sym (get_or-eq_default outcomes zero_outcome (omega arith))
 
 mul-result : tie.Need-offset_bounds-report-i
