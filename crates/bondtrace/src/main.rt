@@ -2,6 +2,8 @@
 
 #![tactic(auto)]
 
-fn main() {
-    end_printing::run(0);
+use std::io;
+
+fn main(rt: HostRuntime) -> io::Result<()> {
+    end_printing::run(&mut rt.stdin(), &mut rt.stdout())
 }

@@ -3,50 +3,81 @@
 
 #![tactic(auto)]
 
+mod missing;
 mod same;
 mod talking;
 mod watching;
 
-use libc::{STDIN_FILENO, STDOUT_FILENO};
+use std::env::FillError;
+use std::io::{ErrorKind, Read, Write};
+use std::rt::{Env, Files};
+use std::{fs, io, str};
 
-// Plays the script that a descriptor delivers, or says that there is none.
-fn play_from(name: &[u8], input: i32) {
-    if input < 0 {
-        os::fail(name);
-        return;
-    }
-    io::write_all(STDOUT_FILENO, b"== ");
-    io::write_all(STDOUT_FILENO, name);
-    io::write_all(STDOUT_FILENO, b"\n");
-    talking::talk(input, true);
-    libc::close(input);
+// Plays the script with this name that an input delivers.
+fn play_from<I: Read, O: Write>(input: &mut I, output: &mut O, name: &[u8]) -> io::Result<()> {
+    output.write_all(b"== ")?;
+    output.write_all(name)?;
+    output.write_all(b"\n")?;
+    talking::talk(input, output, true)
 }
 
-// Plays the script with this name.
-fn play(name: &[u8]) {
-    if scanning::is_word(name, b"-") {
-        play_from(name, STDIN_FILENO);
-        return;
+// Opens the script with this name, which is a path as text.
+fn open_script<R: Files>(rt: &R, name: &[u8]) -> io::Result<R::File> {
+    match str::from_utf8(name) {
+        Ok(path) => fs::open(rt, path),
+        Err(_) => Err(io::Error::from(ErrorKind::InvalidFilename)),
     }
-    play_from(name, os::open_read(name));
+}
+
+// Plays the script with this name, or says why it cannot be opened.
+fn play<R: Files, I: Read, O: Write, E: Write>(
+    rt: &R,
+    input: &mut I,
+    output: &mut O,
+    errors: &mut E,
+    name: &[u8],
+) -> io::Result<()> {
+    if scanning::is_word(name, b"-") {
+        return play_from(input, output, name);
+    }
+    match open_script(rt, name) {
+        Ok(mut script) => play_from(&mut script, output, name),
+        Err(error) => missing::say_missing(errors, name, error),
+    }
 }
 
 // Plays the scripts that the arguments name.
-fn play_scripts(count: usize) {
-    let mut word = io::buffer();
+fn play_scripts<R: Env + Files, I: Read, O: Write, E: Write>(
+    rt: &R,
+    input: &mut I,
+    output: &mut O,
+    errors: &mut E,
+) -> io::Result<()> {
+    let mut word = [0u8; 4096];
     let mut i: usize = 1;
-    while i < count {
-        let n = os::arg(i, &mut word);
-        play(&word[..n]);
+    while i < usize::MAX {
+        match rt.arg(i, &mut word) {
+            Ok(n) => play(rt, input, output, errors, &word[..n])?,
+            // No path is as long, so that it is played as one that no script has.
+            Err(FillError::TooLong) => play(rt, input, output, errors, b"")?,
+            Err(FillError::NotPresent) => return Ok(()),
+        }
         i += 1;
     }
+    Ok(())
 }
 
-fn main() {
-    let count = os::arg_count();
-    if count < 2 {
-        talking::talk(STDIN_FILENO, false);
-        return;
+// Whether there is an argument.
+fn has_arguments<R: Env>(rt: &R) -> bool {
+    let mut word = [0u8; 4096];
+    !matches!(rt.arg(1, &mut word), Err(FillError::NotPresent))
+}
+
+fn main(rt: HostRuntime) -> io::Result<()> {
+    let mut input = rt.stdin();
+    let mut output = rt.stdout();
+    if has_arguments(&rt) {
+        return play_scripts(&rt, &mut input, &mut output, &mut rt.stderr());
     }
-    play_scripts(count);
+    talking::talk(&mut input, &mut output, false)
 }

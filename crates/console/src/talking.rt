@@ -1,10 +1,11 @@
-// The lines that a descriptor delivers, each answered before the next is read, in constant memory.
+// The lines that an input delivers, each answered before the next is read, in constant memory.
 ghost use Rattle.std.specs.Prelude.{◌≡◌, ◌≤◌, length};
 ghost use Rattle.commands.specs.Standing.{line_room};
 
 use crate::watching;
 use dialogue::Session;
-use libc::STDOUT_FILENO;
+use std::io;
+use std::io::{Read, Write};
 
 // So many lines are counted: as many as 64 bits can, which no input comes near.
 const MOST_LINES: u64 = u64::MAX;
@@ -25,7 +26,8 @@ fn at_first() -> Standing {
 }
 
 // Answers one line; where it is watched, tells too what a refused line changed.
-fn answer_line(
+fn answer_line<W: Write>(
+    output: &mut W,
     before: Standing,
     line: &[u8],
     number: u64,
@@ -33,7 +35,7 @@ fn answer_line(
     entries: &mut [u32],
     out: &mut [u8],
     watched: bool,
-) -> Standing
+) -> io::Result<Standing>
     requires { line_room ≤ length numbers.old }
     ensures { length numbers.new ≡ length numbers.old }
 {
@@ -43,19 +45,27 @@ fn answer_line(
     let reply = dialogue::respond(session, line, number, numbers, &mut words, entries, out);
     let after = reply.session;
     let end = numbers::lesser(reply.end, out.len());
-    io::write_all(STDOUT_FILENO, &out[0..end]);
-    watching::watch(watched, &out[0..end], session, &stored, after, &words);
-    Standing {
+    output.write_all(&out[0..end])?;
+    watching::watch(
+        output,
+        watched,
+        &out[0..end],
+        session,
+        &stored,
+        after,
+        &words,
+    )?;
+    Ok(Standing {
         session: after,
         words: words,
-    }
+    })
 }
 
-// Answers the lines that a descriptor delivers, to its end.
-pub fn talk(input: i32, watched: bool) {
-    let mut space = io::large_buffer();
+// Answers the lines that an input delivers, to its end.
+pub fn talk<R: Read, W: Write>(input: &mut R, output: &mut W, watched: bool) -> io::Result<()> {
+    let mut space = [0u8; 65536];
     let buffer: &mut [u8] = &mut space;
-    let mut text = io::large_buffer();
+    let mut text = [0u8; 65536];
     let out: &mut [u8] = &mut text;
     let mut read = commands::no_numbers();
     let numbers: &mut [u32] = &mut read;
@@ -65,15 +75,16 @@ pub fn talk(input: i32, watched: bool) {
     let mut feed = line_input::unread();
     let mut line: u64 = 0;
     while line < MOST_LINES {
-        let taken = line_input::fetch_line(input, buffer, feed);
+        let taken = line_input::fetch_line(input, buffer, feed)?;
         if !taken.there {
-            return;
+            return Ok(());
         }
         feed = taken.feed;
         line += 1;
         let start = taken.start;
         let stop = taken.stop;
         standing = answer_line(
+            output,
             standing,
             &buffer[start..stop],
             line,
@@ -81,6 +92,7 @@ pub fn talk(input: i32, watched: bool) {
             entries,
             out,
             watched,
-        );
+        )?;
     }
+    Ok(())
 }

@@ -2,8 +2,9 @@
 use crate::same::{kept_records, same_store};
 use comparing::same_table;
 use dialogue::Session;
-use libc::STDOUT_FILENO;
 use model::Answer;
+use std::io;
+use std::io::Write;
 
 // Whether an answer is one line, `refused` and its number.
 fn is_refusal(answer: &[u8]) -> bool {
@@ -18,40 +19,49 @@ fn is_refusal(answer: &[u8]) -> bool {
 }
 
 // Prints a line where something is not as it was.
-fn unless(kept: bool, line: &[u8]) {
+fn unless<W: Write>(output: &mut W, kept: bool, line: &[u8]) -> io::Result<()> {
     if kept {
-        return;
+        return Ok(());
     }
-    io::write_all(STDOUT_FILENO, line);
+    output.write_all(line)
 }
 
 // Compares the table, the store and the records before and after a refused line.
-fn compare(before: Session, stored: &[u32; 320], after: Session, store: &[u32; 320]) {
+fn compare<W: Write>(
+    output: &mut W,
+    before: Session,
+    stored: &[u32; 320],
+    after: Session,
+    store: &[u32; 320],
+) -> io::Result<()> {
     let old = before.table;
     let new = after.table;
-    unless(same_table(old, new), b"changed: table\n");
-    unless(same_store(stored, store), b"changed: store\n");
+    unless(output, same_table(old, new), b"changed: table\n")?;
+    unless(output, same_store(stored, store), b"changed: store\n")?;
     let filled = telling::report_to(new, after.records);
     let answer = filled.answer;
     let records = filled.records;
     if let Answer::Refused(_) = answer {
-        unless(kept_records(records), b"changed: records\n");
+        return unless(output, kept_records(records), b"changed: records\n");
     }
+    Ok(())
 }
 
 // Where this is asked for and the answer is a refusal, compares what stood before the line and what stands after it.
-pub fn watch(
+pub fn watch<W: Write>(
+    output: &mut W,
     watched: bool,
     answer: &[u8],
     before: Session,
     stored: &[u32; 320],
     after: Session,
     store: &[u32; 320],
-) {
+) -> io::Result<()> {
     if !watched {
-        return;
+        return Ok(());
     }
     if is_refusal(answer) {
-        compare(before, stored, after, store);
+        return compare(output, before, stored, after, store);
     }
+    Ok(())
 }

@@ -1,17 +1,19 @@
-// What program bondtrace does, with any descriptor as its input: a schedule of any length is played in constant memory, and its end is printed.
+// What program bondtrace does, with any reader as its input and any writer for its output: a schedule of any length is played in constant memory, and its end is printed.
 
 #![tactic(auto)]
 
-ghost use Rattle.std.specs.Prelude.{◌≡◌, Bool, List, [], ◌++◌, ℕ, ◌+◌, ◌≤◌, ◌<◌, length, take};
+ghost use Rattle.std.specs.Prelude.{◌≡◌, Bool, List, [], ◌++◌, ℕ, ◌+◌, ◌≤◌, ◌<◌, length, take, IfOk, OnOk};
+ghost use Rattle.std.specs.Io.KnownBytes.{Appends};
 ghost use Rattle.model.specs.Bondtrace.{bondtrace};
 ghost use Rattle.text.specs.Writing.{Counts, Printed};
 ghost use Rattle.opening.specs.Opened.{Steady};
 ghost use Rattle.played_text.specs.Known.{Reached, Starts, longest_end};
 ghost use Rattle.end_printing.specs.Input.{Told};
 
-use libc::STDOUT_FILENO;
 use opening::Playback;
 use refill::Supply;
+use std::io;
+use std::io::{Read, Write};
 
 // An input is played up to so many bytes: 2^63. No count comes near its end.
 const MOST_BYTES: u64 = 9223372036854775808;
@@ -45,15 +47,21 @@ fn end_of(playback: Playback, store: &[u32], left: usize, delivered: u64, out: &
 }
 
 // Plays what stands in the buffer behind the table record, and the rest of the input; the text of it all.
-fn play_on(input: i32, opened: Playback, buffer: &mut [u8], first: Supply, out: &mut [u8]) -> Ended
+fn play_on<R: Read>(
+    input: &mut R,
+    opened: Playback,
+    buffer: &mut [u8],
+    first: Supply,
+    out: &mut [u8],
+) -> io::Result<Ended>
     requires steady { Steady opened }
     requires starts { Starts opened (take first.end buffer.old) }
     requires delivered_value { first.delivered ≡ first.end }
     requires end_bound { first.end ≤ 65536 }
     requires buffer_len { length buffer.old ≡ 65536 }
     requires out_len { length out.old ≡ 4096 }
-    ensures counts { Counts result.length out.new }
-    ensures told { Told (take first.end buffer.old) result.delivered (take result.length out.new) }
+    ensures counts { IfOk result (λ ended. Counts ended.length out.new) }
+    ensures told { IfOk result (λ ended. Told (take first.end buffer.old) ended.delivered (take ended.length out.new)) }
 {
     let mut words = [0u32; 256];
     let size = 8 * (opened.table.n as usize);
@@ -68,66 +76,72 @@ fn play_on(input: i32, opened: Playback, buffer: &mut [u8], first: Supply, out: 
         let next = start + (playback.place - before) as usize;
         let left = end - next;
         if played.bad {
-            return end_of(playback, &words[..size], left, supply.delivered, out);
+            return Ok(end_of(playback, &words[..size], left, supply.delivered, out));
         }
-        supply = refill::supplied(input, buffer, next, supply);
+        supply = refill::supplied(input, buffer, next, supply)?;
         start = 0;
         if supply.end == left {
-            return end_of(playback, &words[..size], left, supply.delivered, out);
+            return Ok(end_of(playback, &words[..size], left, supply.delivered, out));
         }
     }
     let length = text::put_text(out, 0, b"input too long\n");
-    Ended {
+    Ok(Ended {
         length: length,
         delivered: supply.delivered,
-    }
+    })
 }
 
 // The text of the input that starts with the bytes in the buffer.
-fn text_of_input(input: i32, buffer: &mut [u8], first: Supply, out: &mut [u8]) -> Text
+fn text_of_input<R: Read>(
+    input: &mut R,
+    buffer: &mut [u8],
+    first: Supply,
+    out: &mut [u8],
+) -> io::Result<Text>
     requires delivered_value { first.delivered ≡ first.end }
     requires end_bound { first.end ≤ 65536 }
     requires buffer_len { length buffer.old ≡ 65536 }
     requires out_len { length out.old ≡ 4096 }
-    ensures counts { Counts result.length out.new }
-    ensures room { first.delivered + result.later < 18446744073709551616 }
-    ensures told { Told (take first.end buffer.old) (first.delivered + result.later) (take result.length out.new) }
+    ensures counts { IfOk result (λ text. Counts text.length out.new) }
+    ensures room { IfOk result (λ text. first.delivered + text.later < 18446744073709551616) }
+    ensures told { IfOk result (λ text. Told (take first.end buffer.old) (first.delivered + text.later) (take text.length out.new)) }
 {
     let end = first.end;
     let opened = opening::open(&buffer[..end]);
     if opened.number != 0 {
         let length = played_text::refused_text(opened.number, &buffer[..end], out);
-        return Text {
+        return Ok(Text {
             length: length,
             later: 0,
-        };
+        });
     }
     let playback = opened.playback;
-    let ended = play_on(input, playback, buffer, first, out);
-    Text {
+    let ended = play_on(input, playback, buffer, first, out)?;
+    Ok(Text {
         length: ended.length,
         later: ended.delivered - first.delivered,
-    }
+    })
 }
 
-// Prints a text: that of some input of so many bytes.
-fn print_text(text: &[u8], delivered: u64)
+// Prints a text: that of some input of so many bytes. Where it is known what the output holds, it holds that text behind.
+fn print_text<W: Write>(output: &mut W, text: &[u8], delivered: u64) -> io::Result<()>
     requires { Told [] delivered text.now }
+    ensures { OnOk result (Appends (W.contents output.old) (W.contents output.new) text.now) }
 {
-    io::write_all(STDOUT_FILENO, text);
+    output.write_all(text)
 }
 
-// Plays the schedule that a descriptor delivers, and prints how it ends.
-pub fn run(input: i32) {
-    let mut space = io::large_buffer();
+// Plays the schedule that an input delivers, and prints how it ends.
+pub fn run<R: Read, W: Write>(input: &mut R, output: &mut W) -> io::Result<()> {
+    let mut space = [0u8; 65536];
     let buffer: &mut [u8] = &mut space;
-    let mut out = io::buffer();
+    let mut out = [0u8; 4096];
     let nothing = Supply {
         end: 0,
         delivered: 0,
     };
-    let first = refill::supplied(input, buffer, 0, nothing);
-    let text = text_of_input(input, buffer, first, &mut out);
+    let first = refill::supplied(input, buffer, 0, nothing)?;
+    let text = text_of_input(input, buffer, first, &mut out)?;
     let stop = text.length;
-    print_text(&out[0..stop], first.delivered + text.later);
+    print_text(output, &out[0..stop], first.delivered + text.later)
 }

@@ -2,10 +2,12 @@
 
 #![tactic(auto)]
 
-ghost use Rattle.std.specs.Prelude.{◌≡◌, ◌≤◌, length};
+ghost use Rattle.std.specs.Prelude.{◌≡◌, ◌≤◌, length, IfOk};
 ghost use Rattle.line_input.specs.Fed.{Fed, TakenFrom};
 
 use scanning::line_end;
+use std::io;
+use std::io::Read;
 
 // So many bytes of a line show that it is too long: one more than the longest, and a CR at its end.
 const CUT: usize = 4097;
@@ -119,28 +121,27 @@ pub fn take_line(buffer: &[u8], feed: Feed) -> Taken
 }
 
 // Reads what the input has now, at least a byte unless it ends, behind what is not used yet, which is moved down to the front.
-pub fn read_on(input: i32, buffer: &mut [u8], feed: Feed) -> Feed
+pub fn read_on<R: Read>(input: &mut R, buffer: &mut [u8], feed: Feed) -> io::Result<Feed>
     requires { Fed (length buffer.old) feed }
-    ensures fed { Fed (length buffer.new) result }
+    ensures fed { IfOk result (λ after. Fed (length buffer.new) after) }
     ensures buffer_len_unchanged { length buffer.new ≡ length buffer.old }
 {
     let start = feed.start;
     let rest = feed.end - start;
     refill::move_down(buffer, start, rest);
-    let got = libc::read(input, &mut buffer[rest..]);
-    let more = io::count(got, &buffer[rest..]);
-    Feed {
+    let more = input.read(&mut buffer[rest..])?;
+    Ok(Feed {
         start: 0,
         end: rest + more,
         over: more == 0,
         long: feed.long,
-    }
+    })
 }
 
 // The next line of the input, after as many reads as it takes; none where the input has ended.
-pub fn fetch_line(input: i32, buffer: &mut [u8], before: Feed) -> Taken
+pub fn fetch_line<R: Read>(input: &mut R, buffer: &mut [u8], before: Feed) -> io::Result<Taken>
     requires { Fed (length buffer.old) before }
-    ensures taken_from { TakenFrom (length buffer.new) result }
+    ensures taken_from { IfOk result (λ taken. TakenFrom (length buffer.new) taken) }
     ensures buffer_len_unchanged { length buffer.new ≡ length buffer.old }
 {
     let mut feed = before;
@@ -148,10 +149,10 @@ pub fn fetch_line(input: i32, buffer: &mut [u8], before: Feed) -> Taken
     while turns < u64::MAX {
         let taken = take_line(buffer, feed);
         if taken.there | taken.feed.over {
-            return taken;
+            return Ok(taken);
         }
-        feed = read_on(input, buffer, taken.feed);
+        feed = read_on(input, buffer, taken.feed)?;
         turns += 1;
     }
-    take_line(buffer, feed)
+    Ok(take_line(buffer, feed))
 }

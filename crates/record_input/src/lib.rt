@@ -1,15 +1,16 @@
-// The records of a schedule of any length, read from a descriptor through one buffer, and the line of a record that is refused.
+// The records of a schedule of any length, read from an input through one buffer, and the line of a record that is refused.
 
 #![tactic(auto)]
 
-ghost use Rattle.std.specs.Prelude.{◌≡◌, ◌≤◌, length};
+ghost use Rattle.std.specs.Prelude.{◌≡◌, ◌≤◌, length, IfOk};
 ghost use Rattle.model.specs.RecordBytes.{longest_record};
 ghost use Rattle.model.specs.Decoding.{decode};
 ghost use Rattle.record_input.specs.Places.{Within, Places};
 
-use libc::STDOUT_FILENO;
 use model::{Answer, Record};
 use reading::LONGEST;
+use std::io;
+use std::io::{Read, Write};
 
 // No schedule is followed past this byte, so that the count of bytes cannot overflow.
 pub const LAST_BYTE: u64 = u64::MAX - LONGEST as u64;
@@ -52,25 +53,25 @@ pub fn nothing_read(buffer: &[u8]) -> Span
 }
 
 // The bytes not yet used, after more are read where the buffer's end may cut a record.
-fn unread(input: i32, buffer: &mut [u8], left: Span) -> Span
+fn unread<R: Read>(input: &mut R, buffer: &mut [u8], left: Span) -> io::Result<Span>
     requires { Within (length buffer.old) left }
     ensures buffer_len_unchanged { length buffer.new ≡ length buffer.old }
-    ensures within { Within (length buffer.new) result }
+    ensures within { IfOk result (λ span. Within (length buffer.new) span) }
 {
     let start = left.start;
     let end = left.end;
     if LONGEST <= end - start {
-        return left;
+        return Ok(left);
     }
     // Only the input's end leaves room in the buffer.
     if end < buffer.len() {
-        return left;
+        return Ok(left);
     }
-    let filled = refill::refill(input, buffer, start, end);
-    Span {
+    let filled = refill::refill(input, buffer, start, end)?;
+    Ok(Span {
         start: 0,
         end: filled,
-    }
+    })
 }
 
 // Reads the record at the front of the bytes, told whether it is the first.
@@ -98,12 +99,17 @@ fn take(first: bool, bytes: &[u8]) -> Taken
 }
 
 // The next record, told whether it is the first. A schedule has a first record, so it does not end before that.
-pub fn next_record(input: i32, buffer: &mut [u8], before: Span, first: bool) -> Next
+pub fn next_record<R: Read>(
+    input: &mut R,
+    buffer: &mut [u8],
+    before: Span,
+    first: bool,
+) -> io::Result<Next>
     requires { Within (length buffer.old) before }
     ensures buffer_len_unchanged { length buffer.new ≡ length buffer.old }
-    ensures places { Places first buffer.new result }
+    ensures places { IfOk result (λ next. Places first buffer.new next) }
 {
-    let rest = unread(input, buffer, before);
+    let rest = unread(input, buffer, before)?;
     let start = rest.start;
     let end = rest.end;
     let taken = take(first, &buffer[start..end]);
@@ -113,19 +119,19 @@ pub fn next_record(input: i32, buffer: &mut [u8], before: Span, first: bool) -> 
         start: start + length,
         end: end,
     };
-    Next {
+    Ok(Next {
         over: !first & (start == end),
         item: item,
         start: start,
         length: length,
         refusal: taken.refusal,
         left: left,
-    }
+    })
 }
 
 // Prints the line of a schedule that is refused: the number, and the byte where the refused record starts.
-pub fn print_bad(number: u8, byte: u64) {
-    let mut line = io::buffer();
+pub fn print_bad<W: Write>(output: &mut W, number: u8, byte: u64) -> io::Result<()> {
+    let mut line = [0u8; 4096];
     let end = printing::bad_line(number, byte, &mut line);
-    io::write_all(STDOUT_FILENO, &line[..end]);
+    output.write_all(&line[..end])
 }

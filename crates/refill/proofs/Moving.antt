@@ -7,7 +7,7 @@ use native.Mathlib.Numerals.{add-one}
 use native.Mathlib.Omega.{arith}
 use lib.ListN.{length, get_or, set, take, drop, length-drop}
 use lib.Seq.{length-take-le, get_or-drop, paste, paste-suc, take-paste, drop-paste}
-use Rattle.io.specs.Counts.{IsPrefixLen}
+use Rattle.refill.specs.Refilled.{IsPrefixLen}
 
 -- a number within a list's length counts elements at its start
 pub counted : (n : ℕ) (bytes : List ℕ) → n ≤ length bytes → IsPrefixLen n bytes

@@ -1,5 +1,5 @@
 // Text to bytes: the records of each line, up to the first line that is none of a schedule.
-ghost use Rattle.std.specs.Prelude.{◌≡◌, ◌+◌, ◌≤◌, length};
+ghost use Rattle.std.specs.Prelude.{◌≡◌, ◌+◌, ◌≤◌, length, IfOk};
 ghost use Rattle.model.specs.RecordBytes.{longest_record};
 ghost use Rattle.model.specs.Encoding.{lawful_record};
 ghost use Rattle.roundtrip.specs.Fits.{Bytes};
@@ -10,12 +10,13 @@ ghost use Rattle.schedule_text.specs.Steps.{step_of};
 
 use crate::asked::{how_many, kind_asked, record_at};
 use commands::{NOTHING, TICK_ROW, command, no_numbers};
-use libc::{STDERR_FILENO, STDOUT_FILENO};
 use line_input::fetch_line;
 use model::{Answer, Operation, Record};
 use reading::{LONGEST, record_length};
 use replies::{NOT_RECORD, TABLE_FIRST, put_error};
 use scanning::{next_word, without_return};
+use std::io;
+use std::io::{Read, Write};
 use writing::write;
 
 // What a line came to: whether it is one of a schedule, and whether the next record is the first.
@@ -26,32 +27,32 @@ struct Step {
 }
 
 // Says why line n is none of a schedule, and at which word.
-fn say_wrong(n: u64, reason: u8, word: &[u8]) {
-    let mut text = io::large_buffer();
+fn say_wrong<E: Write>(errors: &mut E, n: u64, reason: u8, word: &[u8]) -> io::Result<()> {
+    let mut text = [0u8; 65536];
     let end = put_error(&mut text, 0, n, reason, word);
-    io::write_all(STDERR_FILENO, &text[..end]);
+    errors.write_all(&text[..end])
 }
 
 // Says why line n is none of a schedule, with its first word.
-fn say_first(n: u64, reason: u8, line: &[u8]) {
+fn say_first<E: Write>(errors: &mut E, n: u64, reason: u8, line: &[u8]) -> io::Result<()> {
     let stop = without_return(line);
     let word = next_word(&line[0..stop], 0);
     let start = word.start;
     let end = word.end;
-    say_wrong(n, reason, &line[start..end]);
+    say_wrong(errors, n, reason, &line[start..end])
 }
 
 // Writes out what is gathered where a record more might not fit; answers how many bytes are still gathered.
-fn with_room(filled: usize, out: &[u8]) -> usize
+fn with_room<W: Write>(output: &mut W, filled: usize, out: &[u8]) -> io::Result<usize>
     requires longest_record_in_bounds { longest_record ≤ length out.now }
     requires filled_in_bounds { filled ≤ length out.now }
-    ensures { result + longest_record ≤ length out.now }
+    ensures { IfOk result (λ gathered. gathered + longest_record ≤ length out.now) }
 {
     if LONGEST <= out.len() - filled {
-        return filled;
+        return Ok(filled);
     }
-    io::write_all(STDOUT_FILENO, &out[0..filled]);
-    0
+    output.write_all(&out[0..filled])?;
+    Ok(0)
 }
 
 // Writes a record over the first bytes; answers whether it is lawful.
@@ -67,10 +68,17 @@ fn put_lawful(first: bool, item: Record, out: &mut [u8]) -> bool
 }
 
 // Writes the records of a line out, gathered in a buffer; answers whether they are lawful.
-fn write_records(first: bool, row: u8, op: Operation, numbers: &[u32], out: &mut [u8]) -> bool
+fn write_records<W: Write>(
+    output: &mut W,
+    first: bool,
+    row: u8,
+    op: Operation,
+    numbers: &[u32],
+    out: &mut [u8],
+) -> io::Result<bool>
     requires bytes { Bytes (threads_of row numbers.now) }
     requires longest_record_in_bounds { longest_record ≤ length out.old }
-    ensures { result ≡ lawful_row first (records_asked row numbers.now op) }
+    ensures { IfOk result (λ lawful. lawful ≡ lawful_row first (records_asked row numbers.now op)) }
 {
     let count = how_many(row, numbers);
     let kind = kind_asked(row, op);
@@ -78,56 +86,71 @@ fn write_records(first: bool, row: u8, op: Operation, numbers: &[u32], out: &mut
     let mut filled: usize = 0;
     let mut i: usize = 0;
     while i < count {
-        filled = with_room(filled, out);
+        filled = with_room(output, filled, out)?;
         let item = record_at(row, op, numbers, i);
         if !put_lawful(first & (i == 0), item, &mut out[filled..]) {
-            return false;
+            return Ok(false);
         }
         filled += size;
         i += 1;
     }
-    io::write_all(STDOUT_FILENO, &out[0..filled]);
-    true
+    output.write_all(&out[0..filled])?;
+    Ok(true)
 }
 
 // Writes the records of line n out, told whether they are the first; or says why it has none.
-fn write_line(n: u64, line: &[u8], first: bool, numbers: &mut [u32], out: &mut [u8]) -> Step
+fn write_line<W: Write, E: Write>(
+    output: &mut W,
+    errors: &mut E,
+    n: u64,
+    line: &[u8],
+    first: bool,
+    numbers: &mut [u32],
+    out: &mut [u8],
+) -> io::Result<Step>
     requires line_room_in_bounds { line_room ≤ length numbers.old }
     requires longest_record_in_bounds { longest_record ≤ length out.old }
-    ensures { result ≡ step_of first (records_of first (command_of line.now)) }
+    ensures { IfOk result (λ step. step ≡ step_of first (records_of first (command_of line.now))) }
 {
     let parsed = command(line, numbers);
     let reason = parsed.reason;
     if reason != 0 {
         let start = parsed.start;
         let end = parsed.end;
-        say_wrong(n, reason, &line[start..end]);
-        return Step { good: false, first };
+        say_wrong(errors, n, reason, &line[start..end])?;
+        return Ok(Step { good: false, first });
     }
     let row = parsed.row;
     if row == NOTHING {
-        return Step { good: true, first };
+        return Ok(Step { good: true, first });
     }
     if TICK_ROW < row {
-        say_first(n, NOT_RECORD, line);
-        return Step { good: false, first };
+        say_first(errors, n, NOT_RECORD, line)?;
+        return Ok(Step { good: false, first });
     }
     let count = parsed.count;
     let op = parsed.op;
     let named = &numbers[0..count];
     let many = how_many(row, named);
-    if write_records(first, row, op, named, out) {
-        return Step {
+    if write_records(output, first, row, op, named, out)? {
+        return Ok(Step {
             good: true,
             first: first & (many == 0),
-        };
+        });
     }
-    say_first(n, TABLE_FIRST, line);
-    Step { good: false, first }
+    say_first(errors, n, TABLE_FIRST, line)?;
+    Ok(Step { good: false, first })
 }
 
-// Writes the records of the lines that a descriptor delivers out, through a buffer for lines, one for numbers and one for bytes.
-fn write_lines(input: i32, buffer: &mut [u8], numbers: &mut [u32], out: &mut [u8])
+// Writes the records of the lines that an input delivers out, through a buffer for lines, one for numbers and one for bytes.
+fn write_lines<R: Read, W: Write, E: Write>(
+    input: &mut R,
+    output: &mut W,
+    errors: &mut E,
+    buffer: &mut [u8],
+    numbers: &mut [u32],
+    out: &mut [u8],
+) -> io::Result<()>
     requires line_room_in_bounds { line_room ≤ length numbers.old }
     requires longest_record_in_bounds { longest_record ≤ length out.old }
 {
@@ -135,26 +158,31 @@ fn write_lines(input: i32, buffer: &mut [u8], numbers: &mut [u32], out: &mut [u8
     let mut first = true;
     let mut n: u64 = 0;
     while n < u64::MAX {
-        let taken = fetch_line(input, buffer, feed);
+        let taken = fetch_line(input, buffer, feed)?;
         if !taken.there {
-            return;
+            return Ok(());
         }
         n += 1;
         let start = taken.start;
         let stop = taken.stop;
-        let step = write_line(n, &buffer[start..stop], first, numbers, out);
+        let step = write_line(output, errors, n, &buffer[start..stop], first, numbers, out)?;
         if !step.good {
-            return;
+            return Ok(());
         }
         feed = taken.feed;
         first = step.first;
     }
+    Ok(())
 }
 
-// Writes the bytes of the schedule whose text a descriptor delivers, up to the end, or to the first line that is none of a schedule: that is told on standard error.
-pub fn print_bytes(input: i32) {
-    let mut lines = io::large_buffer();
+// Writes the bytes of the schedule whose text an input delivers, up to the end, or to the first line that is none of a schedule: that is told where errors are.
+pub fn print_bytes<R: Read, W: Write, E: Write>(
+    input: &mut R,
+    output: &mut W,
+    errors: &mut E,
+) -> io::Result<()> {
+    let mut lines = [0u8; 65536];
     let mut numbers = no_numbers();
-    let mut out = io::large_buffer();
-    write_lines(input, &mut lines, &mut numbers, &mut out);
+    let mut out = [0u8; 65536];
+    write_lines(input, output, errors, &mut lines, &mut numbers, &mut out)
 }

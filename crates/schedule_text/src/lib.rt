@@ -1,4 +1,4 @@
-// Schedules as text: what programs `totext` and `tobytes` do with any descriptor as their input, in constant memory.
+// Schedules as text: what programs `totext` and `tobytes` do with any reader as their input and any writer for their output, in constant memory.
 
 #![tactic(auto)]
 

@@ -45,7 +45,7 @@ fn writes_one(first: bool, row: u8, op: Operation, numbers: &[u32], bytes: &[u8]
 
 // The line of a record is read as one record again, which is written as the first of these bytes.
 pub fn respelled(first: bool, item: Record, bytes: &[u8]) -> bool {
-    let mut line = io::buffer();
+    let mut line = [0u8; 4096];
     let end = put_record(&mut line, 0, item);
     let mut numbers = no_numbers();
     let parsed = command(&line[..end], &mut numbers);

@@ -4,10 +4,11 @@ ghost use Rattle.language.specs.RecordText.{record_text};
 ghost use Rattle.spelling.specs.Lengths.{longest_line};
 ghost use Rattle.text.specs.Writing.{Printed};
 
-use libc::STDOUT_FILENO;
 use model::Record;
 use record_input::{LAST_BYTE, next_record, nothing_read, print_bad};
 use record_text::put_record;
+use std::io;
+use std::io::{Read, Write};
 use text::{NEWLINE, put_byte};
 
 // The line of a record from the first byte on, with what ends it.
@@ -19,31 +20,31 @@ fn put_line(item: Record, out: &mut [u8]) -> usize
 }
 
 // Prints the line of a record.
-fn print_line(item: Record) {
-    let mut line = io::buffer();
+fn print_line<W: Write>(output: &mut W, item: Record) -> io::Result<()> {
+    let mut line = [0u8; 4096];
     let end = put_line(item, &mut line);
-    io::write_all(STDOUT_FILENO, &line[..end]);
+    output.write_all(&line[..end])
 }
 
-// Prints the lines of the records that a descriptor delivers, up to the end, or to one that is unlawful or cut short: that is told.
-pub fn print_text(input: i32) {
-    let mut space = io::large_buffer();
+// Prints the lines of the records that an input delivers, up to the end, or to one that is unlawful or cut short: that is told.
+pub fn print_text<R: Read, W: Write>(input: &mut R, output: &mut W) -> io::Result<()> {
+    let mut space = [0u8; 65536];
     let buffer: &mut [u8] = &mut space;
     let mut left = nothing_read(buffer);
     let mut byte: u64 = 0;
     while byte < LAST_BYTE {
-        let next = next_record(input, buffer, left, byte == 0);
+        let next = next_record(input, buffer, left, byte == 0)?;
         if next.over {
-            return;
+            return Ok(());
         }
         let length = next.length;
         if length == 0 {
-            print_bad(next.refusal, byte);
-            return;
+            return print_bad(output, next.refusal, byte);
         }
         let item = next.item;
-        print_line(item);
+        print_line(output, item)?;
         left = next.left;
         byte += length as u64;
     }
+    Ok(())
 }

@@ -7,6 +7,8 @@ use crate::lines::print_thread;
 use crate::{answers, entries, spoken};
 use model::{Answer, Record, Returned, Table};
 use record_input::{LAST_BYTE, Span, next_record, nothing_read, print_bad};
+use std::io;
+use std::io::{Read, Write};
 
 // What is printed of a schedule: every field of every thread, what changed, in words, or the logs of two recorders.
 pub const FULL: u8 = 0;
@@ -16,19 +18,20 @@ pub const WORDS: u8 = 1;
 pub const LOGS: u8 = 2;
 
 // Prints the lines of all threads.
-fn print_threads(table: Table, store: &[u32]) {
+fn print_threads<W: Write>(output: &mut W, table: Table, store: &[u32]) -> io::Result<()> {
     let n = table.n;
     let mut x: u8 = 0;
     while x < n {
         let i = x as usize;
         // Never so, for a table has at most 32 threads: no contract here says that, so the test keeps i within the array.
         if 32 <= i {
-            return;
+            return Ok(());
         }
         let thread = table.threads[i];
-        print_thread(x, thread, store);
+        print_thread(output, x, thread, store)?;
         x += 1;
     }
+    Ok(())
 }
 
 // The call that a record after the first asks for.
@@ -61,13 +64,26 @@ fn words_of(store: &[u32]) -> [u32; 256]
 }
 
 // Prints the answer to a record's call, and every field.
-fn print_full(place: u64, answer: Answer, after: Table, store: &[u32]) {
-    answers::print_answer(place, answer);
-    print_threads(after, store);
+fn print_full<W: Write>(
+    output: &mut W,
+    place: u64,
+    answer: Answer,
+    after: Table,
+    store: &[u32],
+) -> io::Result<()> {
+    answers::print_answer(output, place, answer)?;
+    print_threads(output, after, store)
 }
 
 // Makes the call of a record and prints what comes of it: the table after it.
-fn follow_record(place: u64, item: Record, table: Table, store: &mut [u32], mode: u8) -> Table
+fn follow_record<W: Write>(
+    output: &mut W,
+    place: u64,
+    item: Record,
+    table: Table,
+    store: &mut [u32],
+    mode: u8,
+) -> io::Result<Table>
     ensures { length store.new ≡ length store.old }
 {
     let old = words_of(store);
@@ -75,43 +91,50 @@ fn follow_record(place: u64, item: Record, table: Table, store: &mut [u32], mode
     let answer = returned.answer;
     let after = returned.table;
     match mode {
-        WORDS => spoken::print_spoken(place, item, answer, table, after, &old, store),
-        LOGS => entries::print_rendezvous(item, answer, table, after, store),
-        _ => print_full(place, answer, after, store),
+        WORDS => spoken::print_spoken(output, place, item, answer, table, after, &old, store)?,
+        LOGS => entries::print_rendezvous(output, item, answer, table, after, store)?,
+        _ => print_full(output, place, answer, after, store)?,
     }
-    after
+    Ok(after)
 }
 
 // Prints what comes of the table record, which is no rendezvous.
-fn follow_first(item: Record, made: Table, store: &[u32], mode: u8) {
+fn follow_first<W: Write>(
+    output: &mut W,
+    item: Record,
+    made: Table,
+    store: &[u32],
+    mode: u8,
+) -> io::Result<()> {
     if mode == LOGS {
-        return;
+        return Ok(());
     }
     if mode == WORDS {
-        spoken::print_made(item);
-        return;
+        return spoken::print_made(output, item);
     }
-    answers::print_made();
-    print_threads(made, store);
+    answers::print_made(output)?;
+    print_threads(output, made, store)
 }
 
 // Prints what stands behind the last record: of the logs, that they are compared.
-fn follow_last(mode: u8) {
+fn follow_last<W: Write>(output: &mut W, mode: u8) -> io::Result<()> {
     if mode == LOGS {
-        entries::print_compare();
+        return entries::print_compare(output);
     }
+    Ok(())
 }
 
 // Follows the records after the first, which has so many bytes and stood before a slice of the buffer.
-fn follow_rest(
-    input: i32,
+fn follow_rest<R: Read, W: Write>(
+    input: &mut R,
+    output: &mut W,
     buffer: &mut [u8],
     size: usize,
     rest: Span,
     made: Table,
     store: &mut [u32],
     mode: u8,
-)
+) -> io::Result<()>
     requires within { Within (length buffer.old) rest }
     requires size_nonzero { (0 < size) × (size ≤ longest_record) }
 {
@@ -120,22 +143,21 @@ fn follow_rest(
     let mut place: u64 = 1;
     let mut byte = size as u64;
     while byte < LAST_BYTE {
-        let next = next_record(input, buffer, left, false);
+        let next = next_record(input, buffer, left, false)?;
         if next.over {
-            follow_last(mode);
-            return;
+            return follow_last(output, mode);
         }
         let length = next.length;
         if length == 0 {
-            print_bad(next.refusal, byte);
-            return;
+            return print_bad(output, next.refusal, byte);
         }
         let item = next.item;
-        table = follow_record(place, item, table, store, mode);
+        table = follow_record(output, place, item, table, store, mode)?;
         left = next.left;
         byte += length as u64;
         place += 1;
     }
+    Ok(())
 }
 
 // The words of the largest table's store, all zero.
@@ -145,35 +167,34 @@ fn zero_store() -> [u32; 256]
     [0; 256]
 }
 
-// Follows the schedule that a descriptor delivers, to its end or to a record that is refused, and prints what the mode says.
-pub fn follow(input: i32, mode: u8) {
-    let mut space = io::large_buffer();
+// Follows the schedule that an input delivers, to its end or to a record that is refused, and prints what the mode says.
+pub fn follow<R: Read, W: Write>(input: &mut R, output: &mut W, mode: u8) -> io::Result<()> {
+    let mut space = [0u8; 65536];
     let buffer: &mut [u8] = &mut space;
     let before = nothing_read(buffer);
-    let first = next_record(input, buffer, before, true);
+    let first = next_record(input, buffer, before, true)?;
     let length = first.length;
     if length == 0 {
-        print_bad(first.refusal, 0);
-        return;
+        return print_bad(output, first.refusal, 0);
     }
     let made = engine::make(first.item.thread);
     let answer = made.answer;
     if let Answer::Refused(number) = answer {
-        print_bad(number, 0);
-        return;
+        return print_bad(output, number, 0);
     }
     let table = made.table;
     let words = 8 * (table.n as usize);
     let mut store = zero_store();
-    follow_first(first.item, table, &store[0..words], mode);
+    follow_first(output, first.item, table, &store[0..words], mode)?;
     let rest = first.left;
     follow_rest(
         input,
+        output,
         buffer,
         length,
         rest,
         table,
         &mut store[0..words],
         mode,
-    );
+    )
 }

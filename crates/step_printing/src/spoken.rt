@@ -1,6 +1,8 @@
 // One line for a record: which call it was, what it answered, and what it changed of each thread, in words.
 use crate::lines::print_line;
 use model::{Answer, Record, Table};
+use std::io;
+use std::io::Write;
 use text::put_text;
 use threads::WORD_LIMIT;
 use words::first_words;
@@ -54,7 +56,8 @@ fn put_all(
 }
 
 // Prints the line of a record.
-pub fn print_spoken(
+pub fn print_spoken<W: Write>(
+    output: &mut W,
     place: u64,
     item: Record,
     answer: Answer,
@@ -62,8 +65,8 @@ pub fn print_spoken(
     after: Table,
     old: &[u32],
     new: &[u32],
-) {
-    let mut space = io::large_buffer();
+) -> io::Result<()> {
+    let mut space = [0u8; 65536];
     let out: &mut [u8] = &mut space;
     let called = speaking::put_call(out, 0, place, item, answer);
     let column = put_pad(out, called, COLUMN);
@@ -73,15 +76,15 @@ pub fn print_spoken(
     if column < changed {
         end = changed;
     }
-    print_line(out, end);
+    print_line(output, out, end)
 }
 
 // Prints the line of the table record, which is accepted.
-pub fn print_made(item: Record) {
-    let mut line = io::buffer();
+pub fn print_made<W: Write>(output: &mut W, item: Record) -> io::Result<()> {
+    let mut line = [0u8; 4096];
     let out: &mut [u8] = &mut line;
     let named = put_text(out, 0, b"0 ");
     let called = record_text::put_record(out, named, item);
     let made = put_text(out, called, b": made");
-    print_line(out, made);
+    print_line(output, out, made)
 }

@@ -4,6 +4,8 @@
 #![tactic(auto)]
 
 use scanning::is_word;
+use std::io;
+use std::rt::Env;
 
 // What the argument asks for.
 fn mode_of(word: &[u8]) -> u8 {
@@ -16,8 +18,15 @@ fn mode_of(word: &[u8]) -> u8 {
     step_printing::FULL
 }
 
-fn main() {
-    let mut argument = io::buffer();
-    let n = os::arg(1, &mut argument);
-    step_printing::follow(libc::STDIN_FILENO, mode_of(&argument[..n]));
+// What the first argument asks for; one that is missing, or too long for any word, as no word does.
+fn mode_asked<R: Env>(rt: &R) -> u8 {
+    let mut argument = [0u8; 4096];
+    match rt.arg(1, &mut argument) {
+        Ok(n) => mode_of(&argument[..n]),
+        Err(_) => step_printing::FULL,
+    }
+}
+
+fn main(rt: HostRuntime) -> io::Result<()> {
+    step_printing::follow(&mut rt.stdin(), &mut rt.stdout(), mode_asked(&rt))
 }

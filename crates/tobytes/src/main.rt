@@ -2,6 +2,8 @@
 
 #![tactic(auto)]
 
-fn main() {
-    schedule_text::print_bytes(libc::STDIN_FILENO);
+use std::io;
+
+fn main(rt: HostRuntime) -> io::Result<()> {
+    schedule_text::print_bytes(&mut rt.stdin(), &mut rt.stdout(), &mut rt.stderr())
 }

@@ -2,6 +2,8 @@
 
 #![tactic(auto)]
 
-fn main() {
-    schedule_text::print_text(libc::STDIN_FILENO);
+use std::io;
+
+fn main(rt: HostRuntime) -> io::Result<()> {
+    schedule_text::print_text(&mut rt.stdin(), &mut rt.stdout())
 }

@@ -7,8 +7,11 @@ mod cases;
 mod texts;
 mod trying;
 
-use libc::STDOUT_FILENO;
 use scanning::is_word;
+use std::env::FillError;
+use std::io::{ErrorKind, Read, Write};
+use std::rt::{Env, Files};
+use std::{fs, io, str};
 
 // What is done with a schedule: it is played to its end, followed record by record, in full, in words or as two recorders note it, or read back from its text.
 const ENDS: u8 = 0;
@@ -41,46 +44,64 @@ fn switch_of(word: &[u8]) -> u8 {
     NO_SWITCH
 }
 
-// Plays the schedule that a descriptor delivers.
-fn play(input: i32, mode: u8) {
+// Plays the schedule that an input delivers.
+fn play<I: Read, O: Write>(input: &mut I, output: &mut O, mode: u8) -> io::Result<()> {
     match mode {
-        ENDS => end_printing::run(input),
-        STEPS => step_printing::follow(input, step_printing::FULL),
-        WORDS => step_printing::follow(input, step_printing::WORDS),
-        LOGS => step_printing::follow(input, step_printing::LOGS),
-        _ => texts::respell(input),
+        ENDS => end_printing::run(input, output),
+        STEPS => step_printing::follow(input, output, step_printing::FULL),
+        WORDS => step_printing::follow(input, output, step_printing::WORDS),
+        LOGS => step_printing::follow(input, output, step_printing::LOGS),
+        _ => texts::respell(input, output),
     }
 }
 
-// Prints the schedule's name and plays it.
-fn play_named(name: &[u8], mode: u8) {
-    io::write_all(STDOUT_FILENO, name);
-    io::write_all(STDOUT_FILENO, b"\n");
-    let input = os::open_read(name);
-    play(input, mode);
-    libc::close(input);
+// Opens the schedule with this name, which is a path as text.
+fn open_schedule<R: Files>(rt: &R, name: &[u8]) -> io::Result<R::File> {
+    match str::from_utf8(name) {
+        Ok(path) => fs::open(rt, path),
+        Err(_) => Err(io::Error::from(ErrorKind::InvalidFilename)),
+    }
+}
+
+// Prints the schedule's name and plays it; one that cannot be opened is played as an empty one.
+fn play_named<R: Files, O: Write>(rt: &R, output: &mut O, name: &[u8], mode: u8) -> io::Result<()> {
+    output.write_all(name)?;
+    output.write_all(b"\n")?;
+    match open_schedule(rt, name) {
+        Ok(mut schedule) => play(&mut schedule, output, mode),
+        Err(_) => play(&mut io::empty(), output, mode),
+    }
+}
+
+// What a word among the arguments does: it says what is done with those behind it, or names a schedule, which is played. The answer is what is done from here on.
+fn take_word<R: Files, O: Write>(rt: &R, output: &mut O, word: &[u8], mode: u8) -> io::Result<u8> {
+    let switch = switch_of(word);
+    if switch != NO_SWITCH {
+        return Ok(switch);
+    }
+    play_named(rt, output, word, mode)?;
+    Ok(mode)
 }
 
 // Plays the schedules that the arguments name.
-fn play_all() {
-    let mut word = io::buffer();
-    let count = os::arg_count();
+fn play_all<R: Env + Files, O: Write>(rt: &R, output: &mut O) -> io::Result<()> {
+    let mut word = [0u8; 4096];
     let mut mode = ENDS;
     let mut i: usize = 1;
-    while i < count {
-        let n = os::arg(i, &mut word);
-        let name = &word[..n];
-        let switch = switch_of(name);
-        if switch == NO_SWITCH {
-            play_named(name, mode);
-        } else {
-            mode = switch;
+    while i < usize::MAX {
+        match rt.arg(i, &mut word) {
+            Ok(n) => mode = take_word(rt, output, &word[..n], mode)?,
+            // No path is as long, so that it is played as one that no schedule has.
+            Err(FillError::TooLong) => mode = take_word(rt, output, b"", mode)?,
+            Err(FillError::NotPresent) => return Ok(()),
         }
         i += 1;
     }
+    Ok(())
 }
 
-fn main() {
-    play_all();
-    trying::try_all();
+fn main(rt: HostRuntime) -> io::Result<()> {
+    let mut output = rt.stdout();
+    play_all(&rt, &mut output)?;
+    trying::try_all(&mut output)
 }

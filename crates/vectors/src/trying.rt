@@ -1,8 +1,9 @@
 // What no line of the console can say: making a table of any size, a begin whose absent send part has fields, and writing a record into a lent run of bytes.
 use crate::cases;
-use libc::STDOUT_FILENO;
 use model::{Answer, Record, Table};
 use reading::{KIND, THREAD};
+use std::io;
+use std::io::Write;
 
 // How many bytes a record is written into at most, and what stands in each before.
 const ALL: usize = 48;
@@ -10,55 +11,55 @@ const ALL: usize = 48;
 const BYTE: u8 = 7;
 
 // Prints bytes.
-fn print(bytes: &[u8]) {
-    io::write_all(STDOUT_FILENO, bytes);
+fn print<W: Write>(output: &mut W, bytes: &[u8]) -> io::Result<()> {
+    output.write_all(bytes)
 }
 
 // Prints an answer in words.
-fn print_answer(answer: Answer) {
-    let mut line = io::buffer();
+fn print_answer<W: Write>(output: &mut W, answer: Answer) -> io::Result<()> {
+    let mut line = [0u8; 4096];
     let end = text::put_answer(&mut line, 0, answer);
     let stop = numbers::lesser(end, line.len());
-    print(&line[0..stop]);
+    print(output, &line[0..stop])
 }
 
 // Prints a number behind a space.
-fn print_number(n: u8) {
-    print(b" ");
-    io::print_decimal(STDOUT_FILENO, n as u64);
+fn print_number<W: Write>(output: &mut W, n: u8) -> io::Result<()> {
+    write!(output, " {n}")
 }
 
 // Prints bytes as numbers.
-fn print_numbers(bytes: &[u8]) {
+fn print_numbers<W: Write>(output: &mut W, bytes: &[u8]) -> io::Result<()> {
     let mut i: usize = 0;
     while i < bytes.len() {
-        print_number(bytes[i]);
+        print_number(output, bytes[i])?;
         i += 1;
     }
+    Ok(())
 }
 
 // Prints what stands where a record was to be written.
-fn print_bytes(bytes: &[u8; ALL]) {
-    print(b", bytes");
-    print_numbers(bytes);
+fn print_bytes<W: Write>(output: &mut W, bytes: &[u8; ALL]) -> io::Result<()> {
+    print(output, b", bytes")?;
+    print_numbers(output, bytes)
 }
 
 // Prints the numbers of a case and what it answers.
-fn print_case(case: &[u8], answer: Answer) {
-    print_numbers(case);
-    print(b": ");
-    print_answer(answer);
+fn print_case<W: Write>(output: &mut W, case: &[u8], answer: Answer) -> io::Result<()> {
+    print_numbers(output, case)?;
+    print(output, b": ")?;
+    print_answer(output, answer)
 }
 
 // Makes a table of so many threads, and prints the size of the one that is returned.
-fn try_make(case: &[u8]) {
+fn try_make<W: Write>(output: &mut W, case: &[u8]) -> io::Result<()> {
     let made = engine::make(cases::number(case, 0));
     let answer = made.answer;
     let table = made.table;
-    print_case(case, answer);
-    print(b", N");
-    print_number(table.n);
-    print(b"\n");
+    print_case(output, case, answer)?;
+    print(output, b", N")?;
+    print_number(output, table.n)?;
+    print(output, b"\n")
 }
 
 // A table of three, new, or in which 0 copies to 1.
@@ -78,21 +79,21 @@ fn table_of_three(copying: bool) -> Table {
 }
 
 // A begin of thread 0 on a table of three, through the main entry, and through the spark entry.
-fn try_begin(case: &[u8; 10]) {
+fn try_begin<W: Write>(output: &mut W, case: &[u8; 10]) -> io::Result<()> {
     let mut store = [0u32; 24];
     let table = table_of_three(cases::number(case, 0) == 1);
     let after = engine::begin(table, 0, cases::operation(case), &mut store);
     let answer = after.answer;
-    print_case(case, answer);
+    print_case(output, case, answer)?;
     let spark = engine::spark_begin(table, 0, cases::operation(case), &mut store);
     let answer = spark.answer;
-    print(b", spark ");
-    print_answer(answer);
-    print(b"\n");
+    print(output, b", spark ")?;
+    print_answer(output, answer)?;
+    print(output, b"\n")
 }
 
 // A record written into as many bytes as are lent; prints all bytes afterwards.
-fn try_write(case: &[u8; 10]) {
+fn try_write<W: Write>(output: &mut W, case: &[u8; 10]) -> io::Result<()> {
     let item = Record {
         kind: cases::number(case, KIND),
         thread: cases::number(case, THREAD),
@@ -102,53 +103,58 @@ fn try_write(case: &[u8; 10]) {
     let lent = numbers::lesser(cases::number(case, 1) as usize, ALL);
     let mut bytes = [BYTE; ALL];
     let answer = writing::write(first, item, &mut bytes[0..lent]);
-    print_case(case, answer);
-    print_bytes(&bytes);
-    print(b"\n");
+    print_case(output, case, answer)?;
+    print_bytes(output, &bytes)?;
+    print(output, b"\n")
 }
 
 // Tables of these sizes.
-fn make_tables() {
-    print(b"Making a table of N\n");
+fn make_tables<W: Write>(output: &mut W) -> io::Result<()> {
+    print(output, b"Making a table of N\n")?;
     let sizes = [0u8, 1, 32, 33, 255];
     let mut i: usize = 0;
     while i < 5 {
-        try_make(&sizes[i..i + 1]);
+        try_make(output, &sizes[i..i + 1])?;
         i += 1;
     }
+    Ok(())
 }
 
 // Begins without a send part, in which its fields stand all the same: none of them counts.
-fn begin_without_send() {
+fn begin_without_send<W: Write>(output: &mut W) -> io::Result<()> {
     print(
+        output,
         b"\nBegins without a send part: copying, -, kind, thread, parts, target, partner, count, send time, receive time\n",
-    );
+    )?;
     let all = cases::without_send();
     let mut i: usize = 0;
     while i < 4 {
         let case = all[i];
-        try_begin(&case);
+        try_begin(output, &case)?;
         i += 1;
     }
+    Ok(())
 }
 
 // Records of every kind and of none.
-fn write_records() {
+fn write_records<W: Write>(output: &mut W) -> io::Result<()> {
     print(
+        output,
         b"\nRecords written: first, bytes lent, kind, thread, parts, target, partner, count, send time, receive time\n",
-    );
+    )?;
     let all = cases::records();
     let mut i: usize = 0;
     while i < 27 {
         let case = all[i];
-        try_write(&case);
+        try_write(output, &case)?;
         i += 1;
     }
+    Ok(())
 }
 
 // Tries all of them, and prints the numbers of each case before what comes of it.
-pub fn try_all() {
-    make_tables();
-    begin_without_send();
-    write_records();
+pub fn try_all<W: Write>(output: &mut W) -> io::Result<()> {
+    make_tables(output)?;
+    begin_without_send(output)?;
+    write_records(output)
 }
