@@ -9,8 +9,8 @@
 # receives that are waited for, n8time, mostly ticks and cancels.
 set -eu
 here=$(cd "$(dirname "$0")" && pwd)
-[ $# -ge 1 ] || set -- "$here/../target/bin/bondtrace"
-prog=$(command -v -- "$1") || { echo "bench: no program $1; 'rt check bondtrace' builds target/bin/bondtrace" >&2; exit 2; }
+[ $# -ge 1 ] || set -- "$here/../crates/bondtrace/out/bondtrace"
+prog=$(command -v -- "$1") || { echo "bench: no program $1; 'rt run < /dev/null' in crates/bondtrace builds bondtrace" >&2; exit 2; }
 case $prog in /*) ;; *) prog=$PWD/$prog ;; esac
 shift
 
