@@ -291,13 +291,13 @@ loop-again c =
     (tick-performed _ (tick-runs so_far (good t)) _ (all-ticked _ _ _ done.2 (omega (arith, done.0, so_far.size))))
 
 -- ---- a call of no thread
-loop-again-2 : tie.Need-loop-preserved-2 invariant-loop2 decreases-loop2 invariant-loop decreases-loop
+loop-again-2 : tie.Need-loop-record-preserved-then-n-x invariant-loop2 decreases-loop2 invariant-loop decreases-loop
 loop-again-2 c =
     let m = c.before.before in let t = turn m in
     way_beyond (top t).loop-record.invariant (good t) (to m) (passes m) c.before.if-kind-eq-TICK.false c.if-n-x.true
 
 -- ---- a step
-loop-again-3 : tie.Need-loop-preserved-3 invariant-loop2 decreases-loop2 invariant-loop decreases-loop
+loop-again-3 : tie.Need-loop-record-preserved-then-own invariant-loop2 decreases-loop2 invariant-loop decreases-loop
 unfolding at
 loop-again-3 c =
     let s = c.before.before.before in let b = below s in let m = measured b in let t = turn m in
@@ -328,7 +328,7 @@ end-threads-requires c κs =
     let d = stepped c.before.before in let p = both d in let b = stepping d in
     ending-waits _ _ (runs b) (shaped b) _ _ (finds p) p.other_or_own-j.ensures (free p) d.step_threads-change.result d.step_threads-change.ensures.0
 
-loop-again-4 : tie.Need-loop-preserved-4 invariant-loop2 decreases-loop2 invariant-loop decreases-loop
+loop-again-4 : tie.Need-loop-record-preserved-then-is_ending invariant-loop2 decreases-loop2 invariant-loop decreases-loop
 unfolding at put
 loop-again-4 c =
     let e = ends c in let d = stepped e in let p = both d in let b = stepping d in let m = measured b in let t = turn m in
@@ -338,7 +338,7 @@ loop-again-4 c =
     (sym e.if-is_ending.true ∙ e.before.is_ending.ensures) c.before.before.end_threads-both.ensures)
 
 -- nothing ends with it
-loop-again-5 : tie.Need-loop-preserved-5 invariant-loop2 decreases-loop2 invariant-loop decreases-loop
+loop-again-5 : tie.Need-loop-record-preserved-then-kind-eq-STEP invariant-loop2 decreases-loop2 invariant-loop decreases-loop
 unfolding at put
 loop-again-5 c =
     let h = half c in let d = on h in let p = both d in let b = stepping d in let m = measured b in let t = turn m in
@@ -348,13 +348,13 @@ loop-again-5 c =
     (sym h.before.if-is_ending.false ∙ h.before.before.is_ending.ensures) c.change_own.ensures h.change_other.ensures)
 
 -- ---- a cancel
-loop-again-6 : tie.Need-loop-preserved-6 invariant-loop2 decreases-loop2 invariant-loop decreases-loop
+loop-again-6 : tie.Need-loop-record-preserved-then-own-2 invariant-loop2 decreases-loop2 invariant-loop decreases-loop
 unfolding at
 loop-again-6 c =
     let k = c.before.before in let b = cancelling k in let m = measured b in let t = turn m in
     way_owned (top t).loop-record.invariant (good t) (to m) (passes m) b.if-n-x.false k.if-kind-eq-CANCEL.true c.if-own-2.true
 
-loop-again-7 : tie.Need-loop-preserved-7 invariant-loop2 decreases-loop2 invariant-loop decreases-loop
+loop-again-7 : tie.Need-loop-record-preserved-then-kind-eq-CANCEL invariant-loop2 decreases-loop2 invariant-loop decreases-loop
 unfolding at put
 loop-again-7 c =
     let k = cancels c in let b = cancelling k in let m = measured b in let t = turn m in
@@ -366,7 +366,7 @@ operation-at-requires c κs =
     let b = beginning c in let t = turn (measured b) in
     (must_begin _ (good t) b.before.if-kind-eq-TICK.false c.before.before.if-kind-eq-STEP.false c.if-kind-eq-CANCEL.false, lawful-long _ false (good t))
 
-loop-again-8 : tie.Need-loop-preserved-8 invariant-loop2 decreases-loop2 invariant-loop decreases-loop
+loop-again-8 : tie.Need-loop-record-preserved-then-begin_refusal-ne0 invariant-loop2 decreases-loop2 invariant-loop decreases-loop
 loop-again-8 c =
     let a = c.before in let e = asks a in let b = beginning e in let m = measured b in let t = turn m in
     way_refused (top t).loop-record.invariant (good t) (to m) (passes m) b.if-n-x.false
@@ -378,7 +378,7 @@ join-queue-requires c κs =
     let j = c.before in let g = begins j in let b = starting g in
     joined-room _ _ _ (accepted g) _ (sized b) _ j.joined_thread-j.ensures (shaped b)
 
-loop-again-9 : tie.Need-loop-preserved-9 invariant-loop2 decreases-loop2 invariant-loop decreases-loop
+loop-again-9 : tie.Need-loop-record-preserved invariant-loop2 decreases-loop2 invariant-loop decreases-loop
 unfolding at put
 loop-again-9 c =
     let q = joined c in let j = joins q in let g = begins j in
