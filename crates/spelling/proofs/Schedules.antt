@@ -112,7 +112,7 @@ line_before first n (asked row numbers o) later f =
 lines-lawful : (first : Bool) (n : ℕ) (later : List (List ℕ)) → LawfulSoFar first (read_lines first n later).records
 unfolding read_lines
 lines-lawful first n [] = tt
-lines-lawful first n (line ∷ later) = line_before first n (command_of line) _ (lines-lawful _ (suc n) later)
+lines-lawful first n (line ∷ later) = line_before first n (command_of line) _ (lines-lawful (first_after first (records_of first (command_of line))) (suc n) later)
 
 -- what is read from any text is lawful
 pub lawful-written : LawfulWritten

@@ -14,22 +14,25 @@ returns c = (rw c.wrong.ensures (line-long _ _ _ c.before.before.without_return-
 
 -- without its CR it is its front
 slice-aggregate-read-line : tie.Need-slice_bounds-read_line-end
-slice-aggregate-read-line c = sym (length-take-le _ _ c.before.before.before.without_return-end.ensures.within)
+slice-aggregate-read-line c = sym (length-take-le _ _ c.without_return-end.ensures.within)
 
 -- the table is the grammar
 read-line-requires : tie.Need-read_line-requires
 unfolding grammar concat ascii up_to
 read-line-requires c κs =
-    let entry = c.before.before.before.before.before.before.before.before in
-    (refl, entry.requires)
+    (refl, c.requires)
 
 -- the front is read
 returns-2 : tie.Need-returns
 returns-2 c =
-    let at-read-line = c.before.before in
-    let at-if1 = at-read-line.before.before.before.before.before in
-    let at-without-return = at-if1.before in
-    (line-short _ _ _ at-without-return.without_return-end.ensures _ at-if1.if1.false at-read-line.read_line.ensures, search rules)
+    (line-short _ _ _ c.without_return-end.ensures _ c.if-end-gt-LINE_LIMIT.false c.read_line.ensures, search rules)
 
 pub command_spec : {M : Type 1} → statement M
-command_spec = tie.close (tie.spec (λ c κs. search rules) (λ c κs. search rules) returns slice-aggregate-read-line read-line-requires (λ c. search rules) returns-2)
+command_spec = tie.close (tie.spec
+    (λ c κs. search rules)
+    (λ c κs. search rules)
+    returns
+    slice-aggregate-read-line
+    read-line-requires
+    (λ c. search rules)
+    returns-2)

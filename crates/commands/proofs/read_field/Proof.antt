@@ -55,4 +55,19 @@ returns-4 c =
     parses_as (field_row _ entry.args.numbers.now entry.args.cursor _ _ at-next-word.next_word-span.ensures at-if1.if-reason-ne0.false at-if2.if-start-end.false _ at-find-row.find_row-row.ensures.0 at-if3.if-row.false) at-read-row.read_row.ensures
 
 pub read_field_spec : {M : Type 1} → statement M
-read_field_spec = tie.close (tie.spec (λ c κs. search rules) returns next-word-requires (λ c κs. search rules) returns-2 (λ c. search rules) (λ c. search rules) (λ c. search rules) find-row-requires (λ c. search rules) (λ c κs. search rules) returns-3 read-row-requires (λ c. search rules) returns-4)
+read_field_spec = tie.close (tie.spec
+    (λ c κs. search rules)
+    returns
+    next-word-requires
+    (λ c κs. search rules)
+    returns-2
+    (λ c. search rules)
+    (λ c. search rules)
+    (λ c. search rules)
+    find-row-requires
+    (λ c. search rules)
+    (λ c κs. search rules)
+    returns-3
+    read-row-requires
+    (λ c. search rules)
+    returns-4)

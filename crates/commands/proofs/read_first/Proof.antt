@@ -65,4 +65,17 @@ returns-3 c =
     parses_as (first-row _ [] _ _ entry.requires.1.0 _ at-find-row.find_row-row.ensures.0 at-if1.if-row-eq-FIRST_FIELD.false at-if2.if-row-eq-SET_ROW.false) at-read-row.read_row.ensures
 
 pub read_first_spec : {M : Type 1} → statement M
-read_first_spec = tie.close (tie.spec (λ c. search rules) (λ c. search rules) (λ c. search rules) find-row-requires (λ c κs. search rules) returns read-letters-requires read-field-requires (λ c. search rules) returns-2 read-row-requires (λ c. search rules) returns-3)
+read_first_spec = tie.close (tie.spec
+    (λ c. search rules)
+    (λ c. search rules)
+    (λ c. search rules)
+    find-row-requires
+    (λ c κs. search rules)
+    returns
+    read-letters-requires
+    read-field-requires
+    (λ c. search rules)
+    returns-2
+    read-row-requires
+    (λ c. search rules)
+    returns-3)

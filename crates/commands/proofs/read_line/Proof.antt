@@ -37,4 +37,13 @@ returns-3 c =
     parses_as (line_first _ [] _ _ at-next-word.next_word-span.ensures at-if1.if-start-end.false at-if2.if-line-start-eq35.false) at-read-first.read_first.ensures
 
 pub read_line_spec : {M : Type 1} → statement M
-read_line_spec = tie.close (tie.spec (λ c κs. search rules) (λ c κs. search rules) returns shared-slice-read-if2 (λ c κs. search rules) returns-2 read-first-requires (λ c. search rules) returns-3)
+read_line_spec = tie.close (tie.spec
+    (λ c κs. search rules)
+    (λ c κs. search rules)
+    returns
+    shared-slice-read-if2
+    (λ c κs. search rules)
+    returns-2
+    read-first-requires
+    (λ c. search rules)
+    returns-3)

@@ -59,4 +59,18 @@ returns-4 c =
     parses_as (ap (complete _) (rw at-most-more.most_more-most.ensures at at-read-more.read_more-last.ensures).means ∙ rest_more _ _ _ _ at-if1.if-reason-ne0.false _ at-rest-letter.rest_letter-letter.ensures at-if2.if-letter-eq112.false at-if3.if-letter-eq97.false) (c.completed.ensures _ _ at-read-more.read_more-last.ensures.stands (omega (arith, at-most-more.most_more-most.ensures, more-below at-rest-letter.rest_letter-letter.result, entry.requires.1.1.1, at-read-more.read_more-last.ensures.few)))
 
 pub read_rest_spec : {M : Type 1} → statement M
-read_rest_spec = tie.close (tie.spec (λ c κs. search rules) returns rest-letter-requires read-parts-requires (λ c κs. search rules) returns-2 (λ c κs. search rules) (λ c κs. search rules) returns-3 (λ c κs. search rules) read-more-requires (λ c κs. search rules) (λ c. search rules) returns-4)
+read_rest_spec = tie.close (tie.spec
+    (λ c κs. search rules)
+    returns
+    rest-letter-requires
+    read-parts-requires
+    (λ c κs. search rules)
+    returns-2
+    (λ c κs. search rules)
+    (λ c κs. search rules)
+    returns-3
+    (λ c κs. search rules)
+    read-more-requires
+    (λ c κs. search rules)
+    (λ c. search rules)
+    returns-4)

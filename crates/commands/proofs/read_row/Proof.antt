@@ -28,4 +28,8 @@ returns c =
     parses_as (ap (read_rest _) at-read-letters.read_letters-last.ensures.means) at-read-rest.read_rest.ensures
 
 pub read_row_spec : {M : Type 1} → statement M
-read_row_spec = tie.close (tie.spec read-letters-requires read-rest-requires (λ c. search rules) returns)
+read_row_spec = tie.close (tie.spec
+    read-letters-requires
+    read-rest-requires
+    (λ c. search rules)
+    returns)

@@ -17,4 +17,8 @@ returns-2 c =
     λ line numbers place le. rw c.asked.ensures (parts-asked line numbers entry.args.row entry.args.count entry.args.parts entry.requires le at-if1.if-reason-ne0.false)
 
 pub with_parts_spec : {M : Type 1} → statement M
-with_parts_spec = tie.close (tie.spec (λ c κs. search rules) returns (λ c κs. search rules) returns-2)
+with_parts_spec = tie.close (tie.spec
+    (λ c κs. search rules)
+    returns
+    (λ c κs. search rules)
+    returns-2)

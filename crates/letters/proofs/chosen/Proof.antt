@@ -9,40 +9,29 @@ use Rattle.letters.proofs.chosen.Tie as tie
 -- the word `yes`
 returns : tie.Need-returns-then-is_word
 unfolding choice_digits ascii up_to
-returns c =
-    let compared = c.before.before.before in
-    rw (sym compared.is_IsWord.ensures ∙ c.before.before.if1.true) c.measured.ensures
+returns c = rw (sym c.is_word.ensures ∙ c.if-is_word.true) c.measured.ensures
 
 -- the word `no`
 returns-2 : tie.Need-returns-then-is_word-2
 unfolding choice_digits ascii up_to
 returns-2 c =
-    let again = c.before.before.before in
-    let compared = again.before.before.before in
-    rw (sym compared.is_IsWord.ensures ∙ again.before.before.if1.false, sym again.is_word-2.ensures ∙ c.before.before.if2.true) c.measured-then-is_word-2.ensures
+    rw (sym c.is_word.ensures ∙ c.if-is_word.false, sym c.is_word-2.ensures ∙ c.if-is_word-2.true) c.measured-then-is_word-2.ensures
 
 -- neither
 returns-3 : tie.Need-returns
 unfolding choice_digits ascii up_to
 returns-3 c =
-    let again = c.before.before.before in
-    let compared = again.before.before.before in
-    rw (sym compared.is_IsWord.ensures ∙ again.before.before.if1.false, sym again.is_word-2.ensures ∙ c.before.before.if2.false) c.measured-2.ensures
+    rw (sym c.is_word.ensures ∙ c.if-is_word.false, sym c.is_word-2.ensures ∙ c.if-is_word-2.false) c.measured-2.ensures
 
 pub chosen_spec : {M : Type 1} → statement M
 chosen_spec =
     tie.close
     (tie.spec
-    (λ c. search rules)
     (λ c κs. search rules)
-    (λ c. search rules)
     (λ c κs. search rules)
     returns
-    (λ c. search rules)
     (λ c κs. search rules)
-    (λ c. search rules)
     (λ c κs. search rules)
     returns-2
-    (λ c. search rules)
     (λ c κs. search rules)
     returns-3)

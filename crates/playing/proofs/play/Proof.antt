@@ -278,7 +278,7 @@ add_at c =
 
 -- ---- a tick
 loop2-holds : tie.Need-loop-k-init invariant-loop2 decreases-loop2 invariant-loop decreases-loop
-loop2-holds c = (search rules, few-threads (top (turn c.before)).loop-record.inv, none-ticked _)
+loop2-holds c = (search rules, few-threads (top (turn c.before)).loop-record.invariant, none-ticked _)
 
 loop2-again : tie.Need-loop-k-preserved invariant-loop2 decreases-loop2 invariant-loop decreases-loop
 unfolding at put

@@ -1,8 +1,7 @@
-use mathlib.Core.Logic.{inl, inr}
 use mathlib.Core.Path.{◌≡◌, refl}
 use Prim.Native.Nat.{◌-◌, ◌*◌, ◌≤◌}
 use native.Mathlib.Omega.{arith}
-use lib.ListN.{length-map, length}
+use lib.ListN.{length}
 use borrow.Author.Rules.{rules}
 use Rattle.model.specs.Threads.{at}
 use Rattle.model.specs.Promise.{state}
@@ -11,6 +10,7 @@ use Rattle.text.specs.Writing.{Written}
 use Rattle.printing.proofs.Bounds.{none-short, one-more-short}
 use Rattle.text.proofs.Writing.{nothing_written, written-length}
 use Rattle.printing.proofs.Texts.{threads-none, one-more-thread, outcome-past}
+use Rattle.printing.proofs.put_threads.Lts.{then-i-lt32, else-i-lt32}
 use Rattle.printing.proofs.put_threads.Statement.{statement}
 use Rattle.printing.proofs.put_threads.Tie as tie
 
@@ -55,10 +55,10 @@ loop-again c =
     let reached = turn.loop-x.invariant in
     let long : length t.threads ≡ 32 = entry.well_formed.0.1.1.1.0.1.0.1 in
     elim c.if-i-lt32.branch [
-      | inl w ↦ (search rules, rw (w.7, w.8) (one-more-thread _ _ reached.1 (w.4.ensures.0 t refl)), one-more-short _ _ reached.2 (w.4.ensures.1 t refl))
-      | inr w ↦
-          let past = outcome-past t turn.loop-x.x (omega (arith, long, w.0.left)) in
-          (search rules, rw (w.5, w.6) (one-more-thread _ _ reached.1 (w.2.ensures.0 t past)), one-more-short _ _ reached.2 (w.2.ensures.1 t past))
+      | then-i-lt32 w ↦ (search rules, rw (w.out-is, w.end-is) (one-more-thread _ _ reached.1 (w.put_thread-end.ensures.0 t refl)), one-more-short _ _ reached.2 (w.put_thread-end.ensures.1 t refl))
+      | else-i-lt32 w ↦
+          let past = outcome-past t turn.loop-x.x (omega (arith, long, w.if-i-lt32.false)) in
+          (search rules, rw (w.out-is, w.end-is) (one-more-thread _ _ reached.1 (w.put_thread-end-else-i-lt32.ensures.0 t past)), one-more-short _ _ reached.2 (w.put_thread-end-else-i-lt32.ensures.1 t past))
     ]
 
 same_length : tie.Need-shape_of-out invariant-loop decreases-loop

@@ -15,4 +15,9 @@ returns c =
     named.put_named-named.ensures then sent.put_send-sent.ensures then received.put_receive.ensures
 
 pub put_begin_spec : {M : Type 1} → statement M
-put_begin_spec = tie.close (tie.spec (λ c. search rules) (λ c κs. search rules) (λ c κs. search rules) (λ c κs. search rules) (λ c. search rules) returns)
+put_begin_spec = tie.close (tie.spec
+    (λ c κs. search rules)
+    (λ c κs. search rules)
+    (λ c κs. search rules)
+    (λ c. search rules)
+    returns)

@@ -10,4 +10,8 @@ returns c =
     named.put_text-named.ensures then placed.put_spaced.ensures
 
 pub put_named_spec : {M : Type 1} → statement M
-put_named_spec = tie.close (tie.spec (λ c κs. search rules) (λ c κs. search rules) (λ c. search rules) returns)
+put_named_spec = tie.close (tie.spec
+    (λ c κs. search rules)
+    (λ c κs. search rules)
+    (λ c. search rules)
+    returns)

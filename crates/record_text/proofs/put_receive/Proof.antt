@@ -14,28 +14,17 @@ returns c = rw c.in-Absent.is (nothing_written _ _)
 returns-2 : tie.Need-returns-in-Open
 unfolding receive_text ascii up_to
 returns-2 c =
-    let timed = c.before.before in
-    let named = timed.before.before.before.before.before in
-    let part = named.before.before.before.before in
-    rw part.receive.given.1 (named.put_text-named.ensures then timed.put_spaced.ensures)
+    rw c.in-Open.is (c.put_text-named.ensures then c.put_spaced.ensures)
 
 returns-3 : tie.Need-returns-in-Closed
 unfolding receive_text ascii up_to
 returns-3 c =
-    let timed = c.before.before in
-    let aimed = timed.before.before.before.before.before in
-    let named = aimed.before.before.before.before.before in
-    let part = named.before.before.before.before in
-    rw part.receive2.given.1 (named.put_text-named-in-Closed.ensures then more_numbers _ _ aimed.put_spaced-aimed.ensures timed.put_spaced-in-Closed.ensures)
+    rw c.in-Closed.is (c.put_text-named-in-Closed.ensures then more_numbers _ _ c.put_spaced-aimed.ensures c.put_spaced-in-Closed.ensures)
 
 returns-4 : tie.Need-returns-in-OneOf
 unfolding receive_text ascii up_to
 returns-4 c =
-    let timed = c.before.before in
-    let aimed = timed.before.before.before.before in
-    let named = aimed.before.before.before.before in
-    let part = named.before.before.before.before in
-    rw part.receive3.given.1 (named.put_text-named-in-OneOf.ensures then more_numbers _ _ aimed.put_spaced-aimed-in-OneOf.ensures timed.put_spaced-in-OneOf.ensures)
+    rw c.in-OneOf.is (c.put_text-named-in-OneOf.ensures then more_numbers _ _ c.put_spaced-aimed-in-OneOf.ensures c.put_spaced-in-OneOf.ensures)
 
 pub put_receive_spec : {M : Type 1} → statement M
 put_receive_spec =
@@ -43,11 +32,7 @@ put_receive_spec =
     (tie.spec
     (λ c. search rules)
     (λ c. search rules)
-    (λ c. search rules)
     (λ c κs. search rules)
-    (λ c. search rules)
-    (λ c κs. search rules)
-    (λ c. search rules)
     (λ c. search rules)
     (λ c κs. search rules)
     (λ c. search rules)
@@ -55,6 +40,7 @@ put_receive_spec =
     (λ c. search rules)
     (λ c κs. search rules)
     (λ c. search rules)
+    (λ c κs. search rules)
     (λ c. search rules)
     (λ c κs. search rules)
     (λ c κs. search rules)

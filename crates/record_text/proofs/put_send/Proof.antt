@@ -9,14 +9,8 @@ use Rattle.record_text.proofs.put_send.Tie as tie
 returns : tie.Need-returns-then-send
 unfolding ascii up_to
 returns c =
-    let worded = c.before.before in
-    let timed = worded.before.before.before.before in
-    let aimed = timed.before.before.before.before.before in
-    let named = aimed.before.before.before.before.before in
-    let test = named.before.before.before in
-    let entry = test.before.before in
-    rw (send-there entry.args.send test.if1.true)
-    (named.put_text-named.ensures then more_numbers _ _ (more_numbers _ _ aimed.put_spaced-aimed.ensures timed.put_spaced-timed.ensures) worded.put_sent.ensures)
+    rw (send-there c.args.send c.if-send.true)
+    (c.put_text-named.ensures then more_numbers _ _ (more_numbers _ _ c.put_spaced-aimed.ensures c.put_spaced-timed.ensures) c.put_sent.ensures)
 
 returns-2 : tie.Need-returns
 returns-2 c = rw (send-missing c.before.before.args.send c.if-send.false) (nothing_written _ _)
@@ -25,7 +19,6 @@ pub put_send_spec : {M : Type 1} → statement M
 put_send_spec =
     tie.close
     (tie.spec
-    (λ c. search rules)
     (λ c κs. search rules)
     (λ c. search rules)
     (λ c κs. search rules)

@@ -11,4 +11,8 @@ returns c =
     rw spaced-one (gap.put_byte-gap.ensures then numbered.put_number.ensures)
 
 pub put_spaced_spec : {M : Type 1} → statement M
-put_spaced_spec = tie.close (tie.spec (λ c κs. search rules) (λ c κs. search rules) (λ c. search rules) returns)
+put_spaced_spec = tie.close (tie.spec
+    (λ c κs. search rules)
+    (λ c κs. search rules)
+    (λ c. search rules)
+    returns)

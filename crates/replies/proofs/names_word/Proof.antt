@@ -11,4 +11,6 @@ returns-2 : tie.Need-returns
 returns-2 c = names_some _ _ c.if-reason-eq-NOT_NUMBER.false
 
 pub names_word_spec : {M : Type 1} → statement M
-names_word_spec = tie.close (tie.spec returns returns-2)
+names_word_spec = tie.close (tie.spec
+    returns
+    returns-2)

@@ -14,7 +14,7 @@ returns c =
     let named-done = c.before.before in
     let colon-done = named-done.before.before.before.before in
     let test = colon-done.before.before.before in
-    rw (named _ _ (sym test.before.names_word.ensures ∙ test.if1.true)) (colon-done.put_text-end.ensures then named-done.put_text.ensures)
+    rw (named _ _ (sym test.before.names_word.ensures ∙ test.if-names_word.true)) (colon-done.put_text-end.ensures then named-done.put_text.ensures)
 
 -- it is not
 returns-2 : tie.Need-returns
@@ -25,7 +25,6 @@ put_named_spec =
     tie.close
     (tie.spec
     (λ c κs. search rules)
-    (λ c. search rules)
     (λ c κs. search rules)
     (λ c κs. search rules)
     (λ c. search rules)

@@ -9,63 +9,63 @@ use Rattle.replies.proofs.put_reason.Tie as tie
 
 returns : tie.Need-returns-in-0
 unfolding reason_text reasons ascii up_to
-returns c = let written = c.before.before in rw written.before.before.before.match.keys1 written.put_text.ensures
+returns c = let written = c.before.before in rw written.before.before.in-0.is written.put_text.ensures
 
 returns-2 : tie.Need-returns-in-1
 unfolding reason_text reasons ascii up_to
-returns-2 c = let written = c.before.before in rw written.before.before.before.match.keys2 written.put_text-in-1.ensures
+returns-2 c = let written = c.before.before in rw written.before.before.in-1.is written.put_text-in-1.ensures
 
 returns-3 : tie.Need-returns-in-2
 unfolding reason_text reasons ascii up_to
-returns-3 c = let written = c.before.before in rw written.before.before.before.match.keys3 written.put_text-in-2.ensures
+returns-3 c = let written = c.before.before in rw written.before.before.in-2.is written.put_text-in-2.ensures
 
 returns-4 : tie.Need-returns-in-3
 unfolding reason_text reasons ascii up_to
-returns-4 c = let written = c.before.before in rw written.before.before.before.match.keys4 written.put_text-in-3.ensures
+returns-4 c = let written = c.before.before in rw written.before.before.in-3.is written.put_text-in-3.ensures
 
 returns-5 : tie.Need-returns-in-4
 unfolding reason_text reasons ascii up_to
-returns-5 c = let written = c.before.before in rw written.before.before.before.match.keys5 written.put_text-in-4.ensures
+returns-5 c = let written = c.before.before in rw written.before.before.in-4.is written.put_text-in-4.ensures
 
 returns-6 : tie.Need-returns-in-5
 unfolding reason_text reasons ascii up_to
-returns-6 c = let written = c.before.before in rw written.before.before.before.match.keys6 written.put_text-in-5.ensures
+returns-6 c = let written = c.before.before in rw written.before.before.in-5.is written.put_text-in-5.ensures
 
 returns-7 : tie.Need-returns-in-6
 unfolding reason_text reasons ascii up_to
-returns-7 c = let written = c.before.before in rw written.before.before.before.match.keys7 written.put_text-in-6.ensures
+returns-7 c = let written = c.before.before in rw written.before.before.in-6.is written.put_text-in-6.ensures
 
 returns-8 : tie.Need-returns-in-7
 unfolding reason_text reasons ascii up_to
-returns-8 c = let written = c.before.before in rw written.before.before.before.match.keys8 written.put_text-in-7.ensures
+returns-8 c = let written = c.before.before in rw written.before.before.in-7.is written.put_text-in-7.ensures
 
 returns-9 : tie.Need-returns-in-8
 unfolding reason_text reasons ascii up_to
-returns-9 c = let written = c.before.before in rw written.before.before.before.match.keys9 written.put_text-in-8.ensures
+returns-9 c = let written = c.before.before in rw written.before.before.in-8.is written.put_text-in-8.ensures
 
 returns-10 : tie.Need-returns-in-9
 unfolding reason_text reasons ascii up_to
-returns-10 c = let written = c.before.before in rw written.before.before.before.match.keys10 written.put_text-in-9.ensures
+returns-10 c = let written = c.before.before in rw written.before.before.in-9.is written.put_text-in-9.ensures
 
 returns-11 : tie.Need-returns-in-10
 unfolding reason_text reasons ascii up_to
-returns-11 c = let written = c.before.before in rw written.before.before.before.match.keys11 written.put_text-in-10.ensures
+returns-11 c = let written = c.before.before in rw written.before.before.in-10.is written.put_text-in-10.ensures
 
 returns-12 : tie.Need-returns-in-11
 unfolding reason_text reasons ascii up_to
-returns-12 c = let written = c.before.before in rw written.before.before.before.match.keys12 written.put_text-in-11.ensures
+returns-12 c = let written = c.before.before in rw written.before.before.in-11.is written.put_text-in-11.ensures
 
 returns-13 : tie.Need-returns-in-12
 unfolding reason_text reasons ascii up_to
-returns-13 c = let written = c.before.before in rw written.before.before.before.match.keys13 written.put_text-in-12.ensures
+returns-13 c = let written = c.before.before in rw written.before.before.in-12.is written.put_text-in-12.ensures
 
 returns-14 : tie.Need-returns-in-13
 unfolding reason_text reasons ascii up_to
-returns-14 c = let written = c.before.before in rw written.before.before.before.match.keys14 written.put_text-in-13.ensures
+returns-14 c = let written = c.before.before in rw written.before.before.in-13.is written.put_text-in-13.ensures
 
 returns-15 : tie.Need-returns-in-14
 unfolding reason_text reasons ascii up_to
-returns-15 c = let written = c.before.before in rw written.before.before.before.match.keys15 written.put_text-in-14.ensures
+returns-15 c = let written = c.before.before in rw written.before.before.in-14.is written.put_text-in-14.ensures
 
 -- past the last there is none
 returns-16 : tie.Need-returns-in_default
@@ -76,35 +76,20 @@ pub put_reason_spec : {M : Type 1} → statement M
 put_reason_spec =
     tie.close
     (tie.spec
-    (λ c. search rules)
     (λ c κs. search rules)
-    (λ c. search rules)
     (λ c κs. search rules)
-    (λ c. search rules)
     (λ c κs. search rules)
-    (λ c. search rules)
     (λ c κs. search rules)
-    (λ c. search rules)
     (λ c κs. search rules)
-    (λ c. search rules)
     (λ c κs. search rules)
-    (λ c. search rules)
     (λ c κs. search rules)
-    (λ c. search rules)
     (λ c κs. search rules)
-    (λ c. search rules)
     (λ c κs. search rules)
-    (λ c. search rules)
     (λ c κs. search rules)
-    (λ c. search rules)
     (λ c κs. search rules)
-    (λ c. search rules)
     (λ c κs. search rules)
-    (λ c. search rules)
     (λ c κs. search rules)
-    (λ c. search rules)
     (λ c κs. search rules)
-    (λ c. search rules)
     (λ c κs. search rules)
     (λ c. search rules)
     returns

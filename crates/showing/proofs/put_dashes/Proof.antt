@@ -13,11 +13,11 @@ use Rattle.showing.proofs.put_dashes.Tie as tie
 
 -- a dash for each place from the first that is not there up to i
 abbrev invariant-loop : tie.invariant-loop-i
-invariant-loop out₀ start there end₀ i₀ t6 out end i = (there ≤ i) × (i - there ≤ 8 - there) × Written start (dashes (i - there)) out₀ out end
+invariant-loop out₀ start there end₀ i₀ out end i = (there ≤ i) × (i - there ≤ 8 - there) × Written start (dashes (i - there)) out₀ out end
 
 -- how many places are left
 abbrev decreases-loop : tie.decreases-loop-i
-decreases-loop out₀ start there end₀ i₀ t6 out end i = 8 - i
+decreases-loop out₀ start there end₀ i₀ out end i = 8 - i
 
 loop-holds : tie.Need-loop-i-init invariant-loop decreases-loop
 loop-holds c = (search rules, omega arith, no_dash _ _ _ (omega arith))
@@ -28,7 +28,7 @@ loop-again c =
     let written = c.before.before in
     let test = written.before.before.before in
     let turn = test.before in
-    (omega (arith, turn.loop.invariant.0), omega (arith, test.loop-test.true, turn.loop.invariant.0), one-more_dash _ _ (omega (arith, turn.loop.invariant.0)) turn.loop.invariant.2 written.put_text-end.ensures)
+    (omega (arith, turn.loop-i.invariant.0), omega (arith, test.loop-i-test.true, turn.loop-i.invariant.0), one-more_dash _ _ (omega (arith, turn.loop-i.invariant.0)) turn.loop-i.invariant.2 written.put_text-end.ensures)
 
 same_length : tie.Need-shape_of-out invariant-loop decreases-loop
 same_length c = written-length c.before.loop-i.invariant.2
@@ -47,7 +47,6 @@ put_dashes_spec =
     invariant-loop
     decreases-loop
     loop-holds
-    (λ c. search rules)
     (λ c κs. search rules)
     (λ c. search rules)
     (λ c. search rules)

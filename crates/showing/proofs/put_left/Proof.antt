@@ -13,7 +13,7 @@ returns c =
     let text-done = c.before.before in
     let test2 = text-done.before.before.before in
     let test1 = test2.before in
-    rw (test1.if1.true, eq-eqb _ _ test2.if2.true) text-done.put_text.ensures
+    rw (test1.if-used.true, eq-eqb _ _ test2.if-left-eq-NEVER.true) text-done.put_text.ensures
 
 returns-2 : tie.Need-returns-then-used
 unfolding left_text ascii up_to
@@ -22,29 +22,26 @@ returns-2 c =
     let text2-done = number-done.before.before.before.before in
     let test2 = text2-done.before.before.before in
     let test1 = test2.before in
-    rw (test1.if1.true, ne_eqb _ _ test2.if2.false) (text2-done.put_text-named.ensures then number-done.put_number.ensures)
+    rw (test1.if-used.true, ne_eqb _ _ test2.if-left-eq-NEVER.false) (text2-done.put_text-named.ensures then number-done.put_number.ensures)
 
 returns-3 : tie.Need-returns
 unfolding left_text ascii up_to
 returns-3 c =
     let text3-done = c.before.before in
     let test1 = text3-done.before.before.before in
-    rw test1.if1.false text3-done.put_text-2.ensures
+    rw test1.if-used.false text3-done.put_text-2.ensures
 
 pub put_left_spec : {M : Type 1} → statement M
 put_left_spec =
     tie.close
     (tie.spec
-    (λ c. search rules)
     (λ c κs. search rules)
     (λ c. search rules)
     returns
-    (λ c. search rules)
     (λ c κs. search rules)
     (λ c κs. search rules)
     (λ c. search rules)
     returns-2
-    (λ c. search rules)
     (λ c κs. search rules)
     (λ c. search rules)
     returns-3)

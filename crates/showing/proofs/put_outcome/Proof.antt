@@ -22,7 +22,7 @@ returns c =
     let byte-done = number-done.before.before.before.before.before in
     let signed-done = byte-done.before.before.before.before in
     let text-done = signed-done.before.before.before.before.before in
-    let entry = text-done.before.before.before.before in
+    let entry = text-done.before.before.before.before.before in
     let code = rw (to_z-of_z (code_fits entry)) at signed-done.put_signed-coded.ensures in
     text-done.put_text-named.ensures then code then byte-done.put_byte-first.ensures then number-done.put_number-sourced.ensures then byte2-done.put_byte-second.ensures then number2-done.put_number.ensures
 
@@ -30,7 +30,6 @@ pub put_outcome_spec : {M : Type 1} → statement M
 put_outcome_spec =
     tie.close
     (tie.spec
-    (λ c. search rules)
     (λ c κs. search rules)
     (λ c κs. search rules)
     (λ c κs. search rules)

@@ -17,7 +17,6 @@ pub put_queue_spec : {M : Type 1} → statement M
 put_queue_spec =
     tie.close
     (tie.spec
-    (λ c. search rules)
     (λ c κs. search rules)
     (λ c. search rules)
     (λ c κs. search rules)

@@ -18,7 +18,6 @@ pub put_store_spec : {M : Type 1} → statement M
 put_store_spec =
     tie.close
     (tie.spec
-    (λ c. search rules)
     (λ c κs. search rules)
     (λ c κs. search rules)
     (λ c κs. search rules)

@@ -17,7 +17,7 @@ returns c =
     let state-done = ties-done.before.before.before.before in
     let number-done = state-done.before.before.before.before in
     let byte-done = number-done.before.before.before.before in
-    byte-done.put_byte.ensures then number-done.put_number-numbered.ensures then state-done.put_state-stated.ensures then ties-done.put_ties-tied.ensures then outcome-done.put_outcome-ended.ensures then store-done.put_store-stored.ensures then queue-done.put_queue-queued.ensures then byte2-done.put_byte.ensures
+    byte-done.put_byte-placed.ensures then number-done.put_number-numbered.ensures then state-done.put_state-stated.ensures then ties-done.put_ties-tied.ensures then outcome-done.put_outcome-ended.ensures then store-done.put_store-stored.ensures then queue-done.put_queue-queued.ensures then byte2-done.put_byte.ensures
 
 pub put_thread_spec : {M : Type 1} → statement M
 put_thread_spec =

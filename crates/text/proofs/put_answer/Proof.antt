@@ -74,64 +74,63 @@ unfolding answer_text ascii up_to
 returns c =
     let numbered = c.before.before in
     let named = numbered.before.before.before.before in
-    let arm = named.before.before.before in
-    rw arm.before.answer.given.1 (named.put_text-end.ensures then numbered.put_number.ensures)
+    rw named.before.before.in-Refused.is (named.put_text-end.ensures then numbered.put_number.ensures)
 
 same-length-2 : tie.Need-shape_of-out-in-Accepted
 same-length-2 c = search rules
 
 returns-2 : tie.Need-returns-in-Accepted
 unfolding answer_text ascii up_to
-returns-2 c = let written = c.before.before in rw written.before.before.before.enum_told.given.1 written.put_text.ensures
+returns-2 c = let written = c.before.before in rw written.before.before.in-Accepted.is written.put_text.ensures
 
 same-length-3 : tie.Need-shape_of-out-in-Marked
 same-length-3 c = search rules
 
 returns-3 : tie.Need-returns-in-Marked
 unfolding answer_text ascii up_to
-returns-3 c = let written = c.before.before in rw written.before.before.before.enum-told2.given.1 written.put_text-in-Marked.ensures
+returns-3 c = let written = c.before.before in rw written.before.before.in-Marked.is written.put_text-in-Marked.ensures
 
 same-length-4 : tie.Need-shape_of-out-in-NothingToCancel
 same-length-4 c = search rules
 
 returns-4 : tie.Need-returns-in-NothingToCancel
 unfolding answer_text ascii up_to
-returns-4 c = let written = c.before.before in rw written.before.before.before.enum-told3.given.1 written.put_text-in-NothingToCancel.ensures
+returns-4 c = let written = c.before.before in rw written.before.before.in-NothingToCancel.is written.put_text-in-NothingToCancel.ensures
 
 same-length-5 : tie.Need-shape_of-out-in-Moved
 same-length-5 c = search rules
 
 returns-5 : tie.Need-returns-in-Moved
 unfolding answer_text ascii up_to
-returns-5 c = let written = c.before.before in rw written.before.before.before.enum-told4.given.1 written.put_text-in-Moved.ensures
+returns-5 c = let written = c.before.before in rw written.before.before.in-Moved.is written.put_text-in-Moved.ensures
 
 same-length-6 : tie.Need-shape_of-out-in-Idle
 same-length-6 c = search rules
 
 returns-6 : tie.Need-returns-in-Idle
 unfolding answer_text ascii up_to
-returns-6 c = let written = c.before.before in rw written.before.before.before.enum-told5.given.1 written.put_text-in-Idle.ensures
+returns-6 c = let written = c.before.before in rw written.before.before.in-Idle.is written.put_text-in-Idle.ensures
 
 same-length-7 : tie.Need-shape_of-out-in-Held
 same-length-7 c = search rules
 
 returns-7 : tie.Need-returns-in-Held
 unfolding answer_text ascii up_to
-returns-7 c = let written = c.before.before in rw written.before.before.before.enum-told6.given.1 written.put_text-in-Held.ensures
+returns-7 c = let written = c.before.before in rw written.before.before.in-Held.is written.put_text-in-Held.ensures
 
 same-length-8 : tie.Need-shape_of-out-in-Wants
 same-length-8 c = search rules
 
 returns-8 : tie.Need-returns-in-Wants
 unfolding answer_text ascii up_to
-returns-8 c = let written = c.before.before in rw written.before.before.before.enum-told7.given.1 written.put_text-in-Wants.ensures
+returns-8 c = let written = c.before.before in rw written.before.before.in-Wants.is written.put_text-in-Wants.ensures
 
 same-length-9 : tie.Need-shape_of-out-in-Asleep
 same-length-9 c = search rules
 
 returns-9 : tie.Need-returns-in-Asleep
 unfolding answer_text ascii up_to
-returns-9 c = let written = c.before.before in rw written.before.before.before.enum-told8.given.1 written.put_text-in-Asleep.ensures
+returns-9 c = let written = c.before.before in rw written.before.before.in-Asleep.is written.put_text-in-Asleep.ensures
 
 pub put_answer_spec : {M : Type 1} → statement M
 put_answer_spec =

@@ -16,7 +16,7 @@ unfolding ascii up_to same_numbers
 returns c =
     let at-is-word = c.before.before in
     let at-next-word = at-is-word.before.before.before in
-    let found = at-next-word.next_word-span.ensures in let e = sym at-is-word.is_IsWord.ensures ∙ c.before.if-is_word.true in spells_as (parts-send _ _ (starts_yes _ _ _ _ found _ refl e) (starts_behind _ _ _ _ found _ refl e)) c.read_send.ensures
+    let found = at-next-word.next_word-span.ensures in let e = sym at-is-word.is_word.ensures ∙ c.before.if-is_word.true in spells_as (parts-send _ _ (starts_yes _ _ _ _ found _ refl e) (starts_behind _ _ _ _ found _ refl e)) c.read_send.ensures
 
 -- another
 returns-2 : tie.Need-returns
@@ -26,7 +26,17 @@ returns-2 c =
     let at-if1 = at-no-operation.before in
     let at-is-word = at-if1.before in
     let at-next-word = at-is-word.before.before.before in
-    let found = at-next-word.next_word-span.ensures in let e = sym at-is-word.is_IsWord.ensures ∙ at-if1.if-is_word.false in spells_as (parts-receive _ (starts_no _ _ _ _ found _ refl e)) (rw at-no-operation.no_operation-none.ensures at c.read_receive.ensures)
+    let found = at-next-word.next_word-span.ensures in let e = sym at-is-word.is_word.ensures ∙ at-if1.if-is_word.false in spells_as (parts-receive _ (starts_no _ _ _ _ found _ refl e)) (rw at-no-operation.no_operation-none.ensures at c.read_receive.ensures)
 
 pub read_parts_spec : {M : Type 1} → statement M
-read_parts_spec = tie.close (tie.spec (λ c κs. search rules) (λ c. search rules) (λ c. search rules) (λ c. search rules) (λ c. search rules) (λ c κs. search rules) read-send-requires returns (λ c κs. search rules) (λ c κs. search rules) returns-2)
+read_parts_spec = tie.close (tie.spec
+    (λ c κs. search rules)
+    (λ c. search rules)
+    (λ c. search rules)
+    (λ c. search rules)
+    (λ c κs. search rules)
+    read-send-requires
+    returns
+    (λ c κs. search rules)
+    (λ c κs. search rules)
+    returns-2)

@@ -33,4 +33,15 @@ returns-2 c =
     spells_as (send-read _ _ _ _ _ _ (rw at-starting-at.starting_at-from.ensures at at-read-numbers.read_numbers-last.ensures) at-if1.if-reason-ne0.false) (rw (at-low-byte.low_byte.ensures, c.before.low_byte-2.ensures) at c.read_words.ensures)
 
 pub read_send_spec : {M : Type 1} → statement M
-read_send_spec = tie.close (tie.spec (λ c κs. search rules) (λ c. search rules) (λ c. search rules) read-numbers-requires (λ c κs. search rules) returns (λ c. search rules) (λ c κs. search rules) (λ c. search rules) (λ c κs. search rules) read-words-requires returns-2)
+read_send_spec = tie.close (tie.spec
+    (λ c κs. search rules)
+    (λ c. search rules)
+    read-numbers-requires
+    (λ c κs. search rules)
+    returns
+    (λ c. search rules)
+    (λ c κs. search rules)
+    (λ c. search rules)
+    (λ c κs. search rules)
+    read-words-requires
+    returns-2)

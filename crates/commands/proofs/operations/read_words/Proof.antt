@@ -13,11 +13,11 @@ use Rattle.commands.proofs.operations.read_words.Tie as tie
 
 -- what is left spells the rest
 abbrev invariant-loop : tie.invariant-loop-send
-invariant-loop line from send₀ at₀ word send at = (at ≤ length line) × (read_words send (words (drop at line)) ≡ read_words send₀ (words (drop from line)))
+invariant-loop line from send₀ at₀ send at = (at ≤ length line) × (read_words send (words (drop at line)) ≡ read_words send₀ (words (drop from line)))
 
 -- how many bytes are left
 abbrev decreases-loop : tie.decreases-loop-send
-decreases-loop line from send₀ at₀ word send at = length line - at
+decreases-loop line from send₀ at₀ send at = length line - at
 
 -- all is left
 loop-holds : tie.Need-loop-send-init invariant-loop decreases-loop
@@ -31,42 +31,42 @@ returns c = spells_as (words-end _ _ _ _ _ c.before.before.next_word-span.ensure
 returns-2 : tie.Need-returns-then-is_word invariant-loop decreases-loop
 unfolding ascii up_to
 returns-2 c =
-    let at-is-word = c.before.before in
-    let at-if1 = at-is-word.before.before.before in
-    let at-next-word = at-if1.before in
-    let turn = at-next-word.before in
-    spells_as (words-receive _ _ _ _ _ at-next-word.next_word-span.ensures at-if1.if1.false (sym at-is-word.is_IsWord.ensures ∙ c.before.if-is_word.true) ∙ turn.loop.invariant.1) c.read_receive-then-is_word.ensures
+    spells_as (words-receive _ _ _ _ _ c.next_word-span.ensures c.if-start-end.false (sym c.is_word.ensures ∙ c.before.if-is_word.true) ∙ c.loop-send.invariant.1) c.read_receive-then-is_word.ensures
 
 -- what is no word of a message
 returns-3 : tie.Need-returns-then-amount-ne0 invariant-loop decreases-loop
 unfolding ascii up_to
 returns-3 c =
-    let at-amount-of = c.before.before.before in
-    let at-if2 = at-amount-of.before in
-    let at-is-word = at-if2.before in
-    let at-if1 = at-is-word.before.before.before in
-    let at-next-word = at-if1.before in
-    let turn = at-next-word.before in
-    rw c.misspelled.ensures (spells_as turn.loop.invariant.1 (words-wrong _ _ _ _ _ at-next-word.next_word-span.ensures at-if1.if1.false (sym at-is-word.is_IsWord.ensures ∙ at-if2.if-is_word.false) _ at-amount-of.amount_of-amount.ensures c.before.if-amount-ne0.true))
+    rw c.misspelled.ensures (spells_as c.loop-send.invariant.1 (words-wrong _ _ _ _ _ c.next_word-span.ensures c.if-start-end.false (sym c.is_word.ensures ∙ c.if-is_word.false) _ c.amount_of-amount.ensures c.before.if-amount-ne0.true))
 
 -- a word has a byte
 loop-less : tie.Need-loop-send-smaller invariant-loop decreases-loop
 loop-less c =
-    let at-if1 = c.before.before.before.before.before.before.before.before in
-    let at-next-word = at-if1.before in
-    omega (arith, at-next-word.next_word-span.ensures.after, at-next-word.next_word-span.ensures.ordered, at-next-word.next_word-span.ensures.within, at-if1.if1.false)
+    omega (arith, c.next_word-span.ensures.after, c.next_word-span.ensures.ordered, c.next_word-span.ensures.within, c.if-start-end.false)
 
 -- what is one
 loop-again : tie.Need-loop-send-preserved invariant-loop decreases-loop
 unfolding ascii up_to
 loop-again c =
-    let at-amount-of = c.before.before.before in
-    let at-if2 = at-amount-of.before in
-    let at-is-word = at-if2.before in
-    let at-if1 = at-is-word.before.before.before in
-    let at-next-word = at-if1.before in
-    let turn = at-next-word.before in
-    (at-next-word.next_word-span.ensures.within, rw c.with_word-send.ensures (words_more _ _ _ _ _ at-next-word.next_word-span.ensures at-if1.if1.false (sym at-is-word.is_IsWord.ensures ∙ at-if2.if-is_word.false) _ at-amount-of.amount_of-amount.ensures c.before.if-amount-ne0.false ∙ turn.loop.invariant.1))
+    (c.next_word-span.ensures.within, rw c.with_word-send.ensures (words_more _ _ _ _ _ c.next_word-span.ensures c.if-start-end.false (sym c.is_word.ensures ∙ c.if-is_word.false) _ c.amount_of-amount.ensures c.before.if-amount-ne0.false ∙ c.loop-send.invariant.1))
 
 pub read_words_spec : {M : Type 1} → statement M
-read_words_spec = tie.close (tie.spec invariant-loop decreases-loop loop-holds (λ c κs. search rules) (λ c κs. search rules) returns (λ c. search rules) (λ c. search rules) (λ c. search rules) (λ c. search rules) (λ c κs. search rules) (λ c κs. search rules) returns-2 (λ c κs. search rules) (λ c κs. search rules) returns-3 (λ c κs. search rules) loop-less loop-again)
+read_words_spec = tie.close (tie.spec
+    invariant-loop
+    decreases-loop
+    loop-holds
+    (λ c κs. search rules)
+    (λ c κs. search rules)
+    returns
+    (λ c. search rules)
+    (λ c. search rules)
+    (λ c. search rules)
+    (λ c κs. search rules)
+    (λ c κs. search rules)
+    returns-2
+    (λ c κs. search rules)
+    (λ c κs. search rules)
+    returns-3
+    (λ c κs. search rules)
+    loop-less
+    loop-again)

@@ -24,4 +24,13 @@ returns c =
     spells_as (closed-read _ _ _ _ _ _ _ (rw at-starting-at.starting_at-from.ensures at at-read-numbers.read_numbers-last.ensures)) (rw (at-low-byte.low_byte.ensures, c.before.low_byte-2.ensures) at c.close.ensures)
 
 pub read_closed_spec : {M : Type 1} → statement M
-read_closed_spec = tie.close (tie.spec (λ c κs. search rules) (λ c. search rules) (λ c. search rules) read-numbers-requires (λ c. search rules) (λ c κs. search rules) (λ c. search rules) (λ c κs. search rules) close-requires returns)
+read_closed_spec = tie.close (tie.spec
+    (λ c κs. search rules)
+    (λ c. search rules)
+    read-numbers-requires
+    (λ c. search rules)
+    (λ c κs. search rules)
+    (λ c. search rules)
+    (λ c κs. search rules)
+    close-requires
+    returns)

@@ -24,7 +24,7 @@ long c = length-take-le c.args.end c.args.line.now c.requires.within
 
 -- at the end of a piece: the way back to the entry
 abbrev entry : tie.After-piece_end-stop invariant-loop decreases-loop → tie.Start invariant-loop decreases-loop
-entry c = c.before.before.before.before
+entry c = c.before.before.before
 
 -- once a piece is known to be a thread: the way back to its number, and to its end
 abbrev number : tie.Else-amount-ne0 invariant-loop decreases-loop → tie.After-amount_of-amount invariant-loop decreases-loop
@@ -39,15 +39,15 @@ thread c = c.before.before
 
 -- the front ends where the word does
 slice-aggregate-front : tie.Need-slice_bounds-front-end invariant-loop decreases-loop
-slice-aggregate-front c = sym (long c.before.before)
+slice-aggregate-front c = sym (long c.before)
 
 -- no partner so far
 loop-holds : tie.Need-loop-front-init invariant-loop decreases-loop
-loop-holds c = members-start _ _ _ c.before.before.requires.ordered
+loop-holds c = members-start _ _ _ c.before.requires.ordered
 
 -- a piece starts within the word
 piece-end-requires : tie.Need-piece_end-stop-requires invariant-loop decreases-loop
-piece-end-requires c κs = omega (arith, c.loop-front.invariant.within, long c.before.before.before)
+piece-end-requires c κs = omega (arith, c.loop-front.invariant.within, long c.before.before)
 
 -- the next is no thread
 returns : tie.Need-returns-then-amount-ne0 invariant-loop decreases-loop
@@ -97,4 +97,22 @@ loop-again c =
     members-more _ _ _ (entry at_piece).requires.within at_piece.before.loop-front.invariant _ at_piece.piece_end-stop.ensures _ (number known).amount_of-amount.ensures known.if-amount-ne0.false _ _ added.before.low_byte.ensures added.with_member-set.ensures c.if-stop-end.false
 
 pub read_members_spec : {M : Type 1} → statement M
-read_members_spec = tie.close (tie.spec invariant-loop decreases-loop slice-aggregate-front loop-holds piece-end-requires (λ c. search rules) (λ c. search rules) (λ c. search rules) (λ c κs. search rules) (λ c κs. search rules) returns (λ c κs. search rules) with-member-requires read-one-of-requires returns-2 add_start loop-less loop-again)
+read_members_spec = tie.close (tie.spec
+    invariant-loop
+    decreases-loop
+    slice-aggregate-front
+    loop-holds
+    piece-end-requires
+    (λ c. search rules)
+    (λ c. search rules)
+    (λ c. search rules)
+    (λ c κs. search rules)
+    (λ c κs. search rules)
+    returns
+    (λ c κs. search rules)
+    with-member-requires
+    read-one-of-requires
+    returns-2
+    add_start
+    loop-less
+    loop-again)

@@ -24,4 +24,11 @@ returns c =
     spells_as (one_of_read _ _ _ _ _ _ _ _ (rw at-starting-at.starting_at-from.ensures at at-read-numbers.read_numbers-last.ensures)) (rw c.before.low_byte-time.ensures at c.close.ensures)
 
 pub read_one_of_spec : {M : Type 1} → statement M
-read_one_of_spec = tie.close (tie.spec (λ c κs. search rules) (λ c. search rules) (λ c. search rules) read-numbers-requires (λ c. search rules) (λ c κs. search rules) close-requires returns)
+read_one_of_spec = tie.close (tie.spec
+    (λ c κs. search rules)
+    (λ c. search rules)
+    read-numbers-requires
+    (λ c. search rules)
+    (λ c κs. search rules)
+    close-requires
+    returns)

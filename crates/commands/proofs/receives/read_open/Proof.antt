@@ -23,4 +23,11 @@ returns c =
     spells_as (open-read _ _ _ _ _ _ _ (rw at-starting-at.starting_at-from.ensures at at-read-numbers.read_numbers-last.ensures)) (rw c.before.low_byte.ensures at c.close.ensures)
 
 pub read_open_spec : {M : Type 1} → statement M
-read_open_spec = tie.close (tie.spec (λ c κs. search rules) (λ c. search rules) (λ c. search rules) read-numbers-requires (λ c. search rules) (λ c κs. search rules) close-requires returns)
+read_open_spec = tie.close (tie.spec
+    (λ c κs. search rules)
+    (λ c. search rules)
+    read-numbers-requires
+    (λ c. search rules)
+    (λ c κs. search rules)
+    close-requires
+    returns)

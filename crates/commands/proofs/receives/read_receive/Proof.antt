@@ -21,7 +21,7 @@ returns-2 c =
     let at-is-word = c.before.before in
     let at-if1 = at-is-word.before.before.before in
     let at-next-word = at-if1.before in
-    spells_as (receive-word _ _ _ _ _ at-next-word.next_word-span.ensures at-if1.if1.false (sym at-is-word.is_IsWord.ensures ∙ c.before.if-is_word.true)) c.read_wait.ensures
+    spells_as (receive-word _ _ _ _ _ at-next-word.next_word-span.ensures at-if1.if-start-end.false (sym at-is-word.is_word.ensures ∙ c.before.if-is_word.true)) c.read_wait.ensures
 
 -- another
 returns-3 : tie.Need-returns
@@ -30,7 +30,18 @@ returns-3 c =
     let at-is-word = c.before.before in
     let at-if1 = at-is-word.before.before.before in
     let at-next-word = at-if1.before in
-    rw c.misspelled.ensures (receive_other _ _ _ _ _ at-next-word.next_word-span.ensures at-if1.if1.false (sym at-is-word.is_IsWord.ensures ∙ c.before.if-is_word.false))
+    rw c.misspelled.ensures (receive_other _ _ _ _ _ at-next-word.next_word-span.ensures at-if1.if-start-end.false (sym at-is-word.is_word.ensures ∙ c.before.if-is_word.false))
 
 pub read_receive_spec : {M : Type 1} → statement M
-read_receive_spec = tie.close (tie.spec (λ c κs. search rules) (λ c κs. search rules) returns (λ c. search rules) (λ c. search rules) (λ c. search rules) (λ c. search rules) (λ c κs. search rules) read-wait-requires returns-2 (λ c κs. search rules) returns-3)
+read_receive_spec = tie.close (tie.spec
+    (λ c κs. search rules)
+    (λ c κs. search rules)
+    returns
+    (λ c. search rules)
+    (λ c. search rules)
+    (λ c. search rules)
+    (λ c κs. search rules)
+    read-wait-requires
+    returns-2
+    (λ c κs. search rules)
+    returns-3)

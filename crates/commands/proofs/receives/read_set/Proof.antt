@@ -33,4 +33,12 @@ returns-2 c =
     spells_as (set-read _ _ _ _ _ _ _ (rw at-starting-at.starting_at-from.ensures at at-read-numbers.read_numbers-last.ensures) at-if1.if-reason-ne0.false) c.read_one_of.ensures
 
 pub read_set_spec : {M : Type 1} → statement M
-read_set_spec = tie.close (tie.spec (λ c κs. search rules) (λ c. search rules) (λ c. search rules) read-numbers-requires (λ c κs. search rules) returns (λ c. search rules) read-one-of-requires returns-2)
+read_set_spec = tie.close (tie.spec
+    (λ c κs. search rules)
+    (λ c. search rules)
+    read-numbers-requires
+    (λ c κs. search rules)
+    returns
+    (λ c. search rules)
+    read-one-of-requires
+    returns-2)
