@@ -21,6 +21,8 @@ RETURNED = [
     (ROOT / "crates/language/proofs/Lines.antt", "too_long", "too-long"),
     (ROOT / "crates/spelling/proofs/Numbers.antt", "all_digits", "all-digits"),
     (ROOT / "crates/spelling/proofs/Numbers.antt", "is_digit", "is-digit"),
+    # and one that it took for a word of the library
+    (ROOT / "crates/model/proofs/Searched.antt", "last_Fits", "last_fits"),
 ]
 
 TOKEN = re.compile(r"[^\s(){}\[\].,;\"`|:«»◌]+")

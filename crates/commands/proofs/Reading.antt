@@ -10,7 +10,7 @@ use lib.Seq.{take-take, take-suc-set, drop-cons}
 use Rattle.model.specs.Lists.{bit}
 use Rattle.model.specs.Refusals.{unless}
 use Rattle.laws.proofs.Joined.{drop_of_take}
-use Rattle.language.specs.Words.{words, value}
+use Rattle.language.specs.Words.{words}
 use Rattle.language.specs.Grammar.{takes_sign}
 use Rattle.language.specs.Commands.{missing, too_much, is_negative, digits_of, reason_for, wrong_number, kept, Progress, stopped, reached, read_number, read_numbers, read_more}
 use Rattle.scanning.specs.Scanned.{between, Found}

@@ -12,7 +12,7 @@ use Rattle.model.specs.Codes.{done, never_begun, code_only}
 use Rattle.model.specs.Calls.{Call, begin, spark_begin}
 use Rattle.model.specs.Refusals.{refusal}
 use Rattle.model.specs.Atomic.{first_machine}
-use Rattle.model.specs.Examples.{first_state, send_to, receive_only, open_for, closed_for, steps, received_from}
+use Rattle.model.specs.Examples.{first_state, send_to, open_for, closed_for, steps, received_from}
 use Rattle.model.proofs.Replay.{agree}
 use Rattle.model.proofs.Answered.{Shown, showing, receiving}
 use Rattle.model.proofs.Limits.{after_limits}

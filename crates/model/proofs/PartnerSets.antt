@@ -1,7 +1,7 @@
 -- Document 02, #104: a receive that is closed on a set. Each row has an operation that thread 0 begins on a new table of four threads, and the number by which
 -- it is refused; then a trace, and records with a set.
 use mathlib.Core.Path.{◌≡◌, refl}
-use mathlib.Core.Bool.{Bool, true, false}
+use mathlib.Core.Bool.{true, false}
 use mathlib.Core.List.{List, [], ◌∷◌, ◌++◌, map}
 use Prim.Native.Nat.{ℕ}
 use lib.ListN.{replicate}
@@ -11,7 +11,7 @@ use Rattle.model.specs.declared.Operation.{Operation}
 use Rattle.model.specs.declared.Record.{Record}
 use Rattle.model.specs.Answers.{accepted, moved, replied, asleep}
 use Rattle.model.specs.Operations.{closed_beyond}
-use Rattle.model.specs.Codes.{done, running, never_begun, code_only}
+use Rattle.model.specs.Codes.{done, running, code_only}
 use Rattle.model.specs.Calls.{Call, begin, spark_begin}
 use Rattle.model.specs.Refusals.{refusal}
 use Rattle.model.specs.Atomic.{first_machine}

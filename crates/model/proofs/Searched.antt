@@ -29,14 +29,14 @@ finds receive queued sender read = record { receive = receive; queued = queued; 
 
 -- the rows
 pub data Name : Type 0 where
-  first_fits second_fits last_Fits any_fits only-one-queued none-fits behind_the_last nobody-queued receives-nothing : Name
+  first_fits second_fits last_fits any_fits only-one-queued none-fits behind_the_last nobody-queued receives-nothing : Name
 
 -- the receive part, the queue and what is found
 unfoldable pub row : Name → SearchedRow
 -- "up to and with that sender's"
 row first_fits = finds (closed_for 1 15) 31 (some 1) 1
 row second_fits = finds (closed_for 2 15) 31 (some 2) 2
-row last_Fits = finds (closed_for 31 15) 31 (some 31) 31
+row last_fits = finds (closed_for 31 15) 31 (some 31) 31
 row any_fits = finds (open_for 15) 31 (some 1) 1
 row only-one-queued = finds (open_for 15) 1 (some 1) 1
 -- "or all if none fits"
@@ -51,7 +51,7 @@ pub searched : (name : Name) → let h = waiting (row name).receive (row name).q
 unfolding after_answered waiting row
 searched first_fits = (refl, refl)
 searched second_fits = (refl, refl)
-searched last_Fits = (refl, refl)
+searched last_fits = (refl, refl)
 searched any_fits = (refl, refl)
 searched only-one-queued = (refl, refl)
 searched none-fits = (refl, refl)

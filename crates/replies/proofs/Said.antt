@@ -9,7 +9,6 @@ use lib.Dec.{eqb}
 use lib.ListN.{length, drop, get_or-eq_default}
 use lib.Seq.{drop-nil}
 use borrow.Author.Tests.{eq-eqb, ne_eqb}
-use Rattle.model.specs.Lists.{up_to}
 use Rattle.model.specs.Schedule.{is_empty}
 use Rattle.model.specs.Bondtrace.{ascii}
 use Rattle.language.specs.Words.{words}

@@ -1,14 +1,13 @@
 -- Laws of a queue as text, and of the dashes for words that are not there.
 use mathlib.Core.Path.{◌≡◌, refl, sym, ◌∙◌}
-use mathlib.Core.List.{List, []}
-use Prim.Native.Nat.{ℕ, suc, ◌+◌, ◌-◌, ◌≤◌, ◌<◌, min}
+use mathlib.Core.List.{List}
+use Prim.Native.Nat.{ℕ, suc, min}
 use native.Mathlib.Omega.{arith}
 use lib.ListN.{length, take}
 use lib.Seq.{take_all}
 use lib.Dec.{leb}
 use borrow.Author.Tests.{leb-true, leb-false}
 use Rattle.model.proofs.Laws.{by}
-use Rattle.model.specs.Lists.{up_to}
 use Rattle.model.specs.Bondtrace.{ascii, spaced}
 use Rattle.text.specs.Writing.{Written}
 use Rattle.text.proofs.Writing.{nothing_written, ◌then◌}

@@ -53,14 +53,14 @@ module _ (t : ℕ) where
   next-requires c κs = let s = c.before.before.before.before in (omega (arith, s.requires.0, c.before.if-x-table.true), (s.requires.1, c.before.if-x-table.true))
 
   next-same-length : try-next-lts.Need-shape_of-counts (try-step-below t, try-step.Post) (try-next-at t) try-next.Post
-  next-same-length c = c.before.before.try-step.auto.1.1.1.0
+  next-same-length c = c.before.before.try_step.auto.counts
 
-  next-returns : try-next-lts.Need-returns-then-left-eq1 (try-step-below t, try-step.Post) (try-next-at t) try-next.Post
+  next-returns : try-next-lts.Need-returns-then-x-table (try-step-below t, try-step.Post) (try-next-at t) try-next.Post
   next-returns c = c.before.before.try_step.ensures
 
   -- no thread is left
   next-returns-2 : try-next-lts.Need-returns-else-x-table (try-step-below t, try-step.Post) (try-next-at t) try-next.Post
-  next-returns-2 c = counted_none c.before.before.before.requires.1 (omega (arith, c.if1.false))
+  next-returns-2 c = counted_none c.before.before.before.requires.1 (omega (arith, c.if-x-table.false))
 
 -- ---- try_step
 -- what it knows of its callees
@@ -77,7 +77,7 @@ module _ (t : ℕ) where
 
   -- the later threads' lists are counted
   abbrev Tried : Type 0
-  Tried = try-step-lts.After-slice-known2 (claims t) (try-step-at t) try-step.Post
+  Tried = try-step-lts.After-slice_known-2-1 (claims t) (try-step-at t) try-step.Post
 
   abbrev entry : Tried → Entry
   entry d = d.before.before.before.before.before
@@ -145,7 +145,7 @@ module _ (t : ℕ) where
 
   -- it ends nothing
   abbrev GoesOn : Type 0
-  GoesOn = try-step-lts.Else1 (claims t) (try-step-at t) try-step.Post
+  GoesOn = try-step-lts.Else-is_ending (claims t) (try-step-at t) try-step.Post
 
   abbrev goes-made : GoesOn → Made
   goes-made g = g.before.before
@@ -199,19 +199,19 @@ module _ (t : ℕ) where
   ended-mul c = record { fits = omega (arith, c.before.place_with-p.ensures.1) }
 
   ended-read : try-step-lts.Need-bounds-counts-p (claims t) (try-step-at t) try-step.Post
-  ended-read c = let d = c.before.before in let m = placed-made d in omega (arith, d.place_with-p.ensures.1, (turn m).before.before.try_next.kept.1.1.1.0, (start m).requires.1.0.long)
+  ended-read c = let d = c.before.before in let m = placed-made d in omega (arith, d.place_with-p.ensures.1, (turn m).before.before.try_next.auto.counts, (start m).requires.1.0.long)
 
   ended-add : try-step-lts.Need-overflow_add-counts (claims t) (try-step-at t) try-step.Post
-  ended-add c = let d = c.before.before in let m = placed-made d in record { fits = one-fits (start m).requires.1.0 (below (start m)) (turn m).before.before.try_next.ensures (turn m).before.before.try_next.kept.1.1.1.0 c.before.if-left-eq1.true _ (ended-leads d) d.place_with-p.ensures.1 }
+  ended-add c = let d = c.before.before in let m = placed-made d in record { fits = one-fits (start m).requires.1.0 (below (start m)) (turn m).before.before.try_next.ensures (turn m).before.before.try_next.auto.counts c.before.if-left-eq1.true _ (ended-leads d) d.place_with-p.ensures.1 }
 
   ended-write : try-step-lts.Need-bounds-counts-p-then-left-eq1 (claims t) (try-step-at t) try-step.Post
-  ended-write c = let d = c.before.before in let m = placed-made d in omega (arith, d.place_with-p.ensures.1, (turn m).before.before.try_next.kept.1.1.1.0, (start m).requires.1.0.long)
+  ended-write c = let d = c.before.before in let m = placed-made d in omega (arith, d.place_with-p.ensures.1, (turn m).before.before.try_next.auto.counts, (start m).requires.1.0.long)
 
-  ended-length : try-step-lts.Need-shape_of-counts (claims t) (try-step-at t) try-step.Post
-  ended-length c = let m = placed-made c.before.before in simp length-set (turn m).before.before.try_next.kept.1.1.1.0
+  ended-length : try-step-lts.Need-shape_of-counts-then-left-eq1 (claims t) (try-step-at t) try-step.Post
+  ended-length c = let m = placed-made c.before.before in simp length-set (turn m).before.before.try_next.auto.counts
 
   ended-returns : try-step-lts.Need-returns-then-left-eq1 (claims t) (try-step-at t) try-step.Post
-  ended-returns c = let d = c.before.before in let m = placed-made d in counted-last (start m).requires.1.0 (below (start m)) (turn m).before.before.try_next.ensures (turn m).before.before.try_next.kept.1.1.1.0 c.before.if-left-eq1.true _ (ended-leads d) d.place_with-p.ensures.1
+  ended-returns c = let d = c.before.before in let m = placed-made d in counted-last (start m).requires.1.0 (below (start m)) (turn m).before.before.try_next.ensures (turn m).before.before.try_next.auto.counts c.before.if-left-eq1.true _ (ended-leads d) d.place_with-p.ensures.1
 
   -- or steps are left
   mul-theirs : try-step-lts.Need-offset_bounds-next-j (claims t) (try-step-at t) try-step.Post
@@ -236,16 +236,16 @@ module _ (t : ℕ) where
   ended-on-requires c κs =
       let d = c.before.before in
       let m = placed-made d in
-      (omega (arith, (start m).requires.0, below (start m), (start m).requires.1.0.front.front.few, (start m).requires.1.0.front.front.size, (start m).requires.1.0.some), trying_on (start m).requires.1.0 (below (start m)) (turn m).before.before.try_next.ensures (turn m).before.before.try_next.kept.1.1.1.0 c.before.if-left-eq1.false (ended_to d))
+      (omega (arith, (start m).requires.0, below (start m), (start m).requires.1.0.front.front.few, (start m).requires.1.0.front.front.size, (start m).requires.1.0.some), trying_on (start m).requires.1.0 (below (start m)) (turn m).before.before.try_next.ensures (turn m).before.before.try_next.auto.counts c.before.if-left-eq1.false (ended_to d))
 
   ended-on-length : try-step-lts.Need-shape_of-counts-then-is_ending (claims t) (try-step-at t) try-step.Post
-  ended-on-length c = let m = placed-made c.before.before.before.before.before in c.before.before.try_next-then-is_ending.auto.1.1.1.0 ∙ (turn m).before.before.try_next.kept.1.1.1.0
+  ended-on-length c = let m = placed-made c.before.before.before.before.before in c.before.before.try_next-then-is_ending.auto.counts ∙ (turn m).before.before.try_next.auto.counts
 
-  ended-on-returns : try-step-lts.Need-returns-else-x-table (claims t) (try-step-at t) try-step.Post
+  ended-on-returns : try-step-lts.Need-returns-then-is_ending (claims t) (try-step-at t) try-step.Post
   ended-on-returns c =
       let e = c.before.before.before.before in
       let m = placed-made e.before in
-      counted_on (start m).requires.1.0 (below (start m)) (turn m).before.before.try_next.ensures (turn m).before.before.try_next.kept.1.1.1.0 e.if-left-eq1.false (ended_to e.before) c.before.before.try_next-then-is_ending.ensures
+      counted_on (start m).requires.1.0 (below (start m)) (turn m).before.before.try_next.ensures (turn m).before.before.try_next.auto.counts e.if-left-eq1.false (ended_to e.before) c.before.before.try_next-then-is_ending.ensures
 
   -- ---- it ends nothing
   -- it was the last one
@@ -256,25 +256,25 @@ module _ (t : ℕ) where
   goes_mul c = let m = goes-made c.before in record { fits = omega (arith, place_in_counts (start m).requires.1.0.front) }
 
   goes-read : try-step-lts.Need-bounds-counts-table (claims t) (try-step-at t) try-step.Post
-  goes-read c = let m = goes-made c.before.before in omega (arith, place_in_counts (start m).requires.1.0.front, (turn m).before.before.try_next.kept.1.1.1.0, (start m).requires.1.0.long)
+  goes-read c = let m = goes-made c.before.before in omega (arith, place_in_counts (start m).requires.1.0.front, (turn m).before.before.try_next.auto.counts, (start m).requires.1.0.long)
 
   goes_add : try-step-lts.Need-overflow_add-counts-then-left-eq1-2 (claims t) (try-step-at t) try-step.Post
   goes_add c =
       let g = c.before.before in
       let m = goes-made g in
-      record { fits = one-fits (start m).requires.1.0 (below (start m)) (turn m).before.before.try_next.ensures (turn m).before.before.try_next.kept.1.1.1.0 c.before.if-left-eq1-2.true _ (goes-leads g) (place_in_counts (start m).requires.1.0.front) }
+      record { fits = one-fits (start m).requires.1.0 (below (start m)) (turn m).before.before.try_next.ensures (turn m).before.before.try_next.auto.counts c.before.if-left-eq1-2.true _ (goes-leads g) (place_in_counts (start m).requires.1.0.front) }
 
   goes-write : try-step-lts.Need-bounds-counts-table-then-left-eq1-2 (claims t) (try-step-at t) try-step.Post
-  goes-write c = let m = goes-made c.before.before in omega (arith, place_in_counts (start m).requires.1.0.front, (turn m).before.before.try_next.kept.1.1.1.0, (start m).requires.1.0.long)
+  goes-write c = let m = goes-made c.before.before in omega (arith, place_in_counts (start m).requires.1.0.front, (turn m).before.before.try_next.auto.counts, (start m).requires.1.0.long)
 
   goes-length : try-step-lts.Need-shape_of-counts-then-left-eq1-2 (claims t) (try-step-at t) try-step.Post
-  goes-length c = let m = goes-made c.before.before in simp length-set (turn m).before.before.try_next.kept.1.1.1.0
+  goes-length c = let m = goes-made c.before.before in simp length-set (turn m).before.before.try_next.auto.counts
 
   goes-returns : try-step-lts.Need-returns-then-left-eq1-2 (claims t) (try-step-at t) try-step.Post
   goes-returns c =
       let g = c.before.before in
       let m = goes-made g in
-      counted-last (start m).requires.1.0 (below (start m)) (turn m).before.before.try_next.ensures (turn m).before.before.try_next.kept.1.1.1.0 c.before.if-left-eq1-2.true _ (goes-leads g) (place_in_counts (start m).requires.1.0.front)
+      counted-last (start m).requires.1.0 (below (start m)) (turn m).before.before.try_next.ensures (turn m).before.before.try_next.auto.counts c.before.if-left-eq1-2.true _ (goes-leads g) (place_in_counts (start m).requires.1.0.front)
 
   -- it changes nothing
   abbrev Stays : Type 0
@@ -297,16 +297,16 @@ module _ (t : ℕ) where
   same-on-requires c κs =
       let e = c.before in
       let m = goes-made (stays_on e) in
-      (omega (arith, (start m).requires.0, below (start m), (start m).requires.1.0.front.front.few, (start m).requires.1.0.front.front.size, (start m).requires.1.0.some), trying_on (start m).requires.1.0 (below (start m)) (turn m).before.before.try_next.ensures (turn m).before.before.try_next.kept.1.1.1.0 e.before.before.if-left-eq1-2.false (same-to e))
+      (omega (arith, (start m).requires.0, below (start m), (start m).requires.1.0.front.front.few, (start m).requires.1.0.front.front.size, (start m).requires.1.0.some), trying_on (start m).requires.1.0 (below (start m)) (turn m).before.before.try_next.ensures (turn m).before.before.try_next.auto.counts e.before.before.if-left-eq1-2.false (same-to e))
 
   same-on-length : try-step-lts.Need-shape_of-counts-then-changes_nothing (claims t) (try-step-at t) try-step.Post
-  same-on-length c = let m = goes-made (stays_on c.before.before.before.before) in c.before.before.try_next-then-changes_nothing.auto.1.1.1.0 ∙ (turn m).before.before.try_next.kept.1.1.1.0
+  same-on-length c = let m = goes-made (stays_on c.before.before.before.before) in c.before.before.try_next-then-changes_nothing.auto.counts ∙ (turn m).before.before.try_next.auto.counts
 
   same-on-returns : try-step-lts.Need-returns-then-changes_nothing (claims t) (try-step-at t) try-step.Post
   same-on-returns c =
       let e = c.before.before.before.before in
       let m = goes-made (stays_on e) in
-      counted_on (start m).requires.1.0 (below (start m)) (turn m).before.before.try_next.ensures (turn m).before.before.try_next.kept.1.1.1.0 e.before.before.if-left-eq1-2.false (same-to e) c.before.before.try_next-then-changes_nothing.ensures
+      counted_on (start m).requires.1.0 (below (start m)) (turn m).before.before.try_next.ensures (turn m).before.before.try_next.auto.counts e.before.before.if-left-eq1-2.false (same-to e) c.before.before.try_next-then-changes_nothing.ensures
 
   -- it sets some fields of both
   abbrev Changed : Type 0
@@ -341,16 +341,16 @@ module _ (t : ℕ) where
   changed-on-requires c κs =
       let d = c.before in
       let m = goes-made (changed-on d) in
-      (omega (arith, (start m).requires.0, below (start m), (start m).requires.1.0.front.front.few, (start m).requires.1.0.front.front.size, (start m).requires.1.0.some), trying_on (start m).requires.1.0 (below (start m)) (turn m).before.before.try_next.ensures (turn m).before.before.try_next.kept.1.1.1.0 d.before.before.before.before.if-left-eq1-2.false (changed-to d))
+      (omega (arith, (start m).requires.0, below (start m), (start m).requires.1.0.front.front.few, (start m).requires.1.0.front.front.size, (start m).requires.1.0.some), trying_on (start m).requires.1.0 (below (start m)) (turn m).before.before.try_next.ensures (turn m).before.before.try_next.auto.counts d.before.before.before.before.if-left-eq1-2.false (changed-to d))
 
   changed-on-length : try-step-lts.Need-shape_of-counts (claims t) (try-step-at t) try-step.Post
-  changed-on-length c = let m = goes-made (changed-on c.before.before.before.before) in c.before.before.try_next-2.auto.1.1.1.0 ∙ (turn m).before.before.try_next.kept.1.1.1.0
+  changed-on-length c = let m = goes-made (changed-on c.before.before.before.before) in c.before.before.try_next-2.auto.counts ∙ (turn m).before.before.try_next.auto.counts
 
   changed-on-returns : try-step-lts.Need-returns (claims t) (try-step-at t) try-step.Post
   changed-on-returns c =
       let d = c.before.before.before.before in
       let m = goes-made (changed-on d) in
-      counted_on (start m).requires.1.0 (below (start m)) (turn m).before.before.try_next.ensures (turn m).before.before.try_next.kept.1.1.1.0 d.before.before.before.before.if-left-eq1-2.false (changed-to d) c.before.before.try_next-2.ensures
+      counted_on (start m).requires.1.0 (below (start m)) (turn m).before.before.try_next.ensures (turn m).before.before.try_next.auto.counts d.before.before.before.before.if-left-eq1-2.false (changed-to d) c.before.before.try_next-2.ensures
 
 pub +try_next_try_step_spec : {M : Type 1} → statement M
 +try_next_try_step_spec =

@@ -20,7 +20,7 @@ try-next-requires c κs = trying_all c.before.before.before.requires (some c.bef
 returns-2 : tie.Need-returns
 returns-2 c =
     let e = c.before.before.before.before in
-    counted-all e.before.before.requires (some e) c.before.before.try_next.auto.1.1.1.0 c.before.before.try_next.ensures
+    counted-all e.before.before.requires (some e) c.before.before.try_next.auto.counts c.before.before.try_next.ensures
 
 pub count_lists_spec : {M : Type 1} → statement M
 count_lists_spec = tie.close (tie.spec (λ c. search rules) (λ c. search rules) slice-write-counts (λ c. search rules) returns try-next-requires (λ c. search rules) returns-2)

@@ -3,9 +3,7 @@ use borrow.Author.Rules.{rules}
 use borrow.Author.Tests.{eq-eqb, ne_eqb}
 use Rattle.model.specs.Lists.{up_to}
 use Rattle.model.specs.Bondtrace.{ascii}
-use Rattle.language.specs.RecordText.{record_line}
 use Rattle.roundtrip.proofs.Typed.{record_typed}
-use Rattle.spelling.specs.Lengths.{longest_line}
 use Rattle.spelling.proofs.Lines.{line_of_table, line_of_begin, line_of_step, line_of_cancel, line_of_tick, line-short}
 use Rattle.record_text.specs.Lines.{begin_line}
 use Rattle.record_text.proofs.put_record.Statement.{statement}

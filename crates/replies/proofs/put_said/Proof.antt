@@ -1,4 +1,3 @@
-use mathlib.Core.List.{◌∷◌}
 use borrow.Author.Rules.{rules}
 use Rattle.model.specs.Lists.{up_to}
 use Rattle.model.specs.Bondtrace.{ascii}
