@@ -1,5 +1,6 @@
 -- What is known of a record where the call that returned it was not refused.
 use mathlib.Core.Path.{◌≡◌, refl, sym, ◌∙◌, ap}
+use mathlib.Core.Logic.{inl, inr}
 use mathlib.Core.Bool.{Bool, true, false, true≢false}
 use mathlib.Core.List.{List, [], ◌∷◌}
 use Prim.Native.Nat.{ℕ, zero, suc, ◌≤◌}
@@ -25,6 +26,18 @@ others = 1 ∷ 2 ∷ 3 ∷ 4 ∷ 5 ∷ 6 ∷ 7 ∷ 8 ∷ []
 -- the answer is of another case than the refusal
 abbrev pub Accepts : Answer → Type 0
 Accepts a = OneOf others (tag_of the_type a)
+
+-- an answer that is no refusal is
+pub accepts-other : (a : Answer) → ((g : ℕ) → a ≡ Refused g → ⊥) → Accepts a
+accepts-other (Refused g) other = absurd (other g refl)
+accepts-other Accepted other = inl refl
+accepts-other Marked other = inr (inl refl)
+accepts-other NothingToCancel other = inr (inr (inl refl))
+accepts-other Moved other = inr (inr (inr (inl refl)))
+accepts-other Idle other = inr (inr (inr (inr (inl refl))))
+accepts-other Held other = inr (inr (inr (inr (inr (inl refl)))))
+accepts-other Wants other = inr (inr (inr (inr (inr (inr (inl refl))))))
+accepts-other Asleep other = inr (inr (inr (inr (inr (inr (inr refl))))))
 
 -- what is said is a refusal
 abbrev refuses : Said → Bool
