@@ -30,7 +30,7 @@ use Rattle.formed.proofs.Flags.{cases, told_any_if, fits_in}
 use Rattle.formed.proofs.Own.{Own}
 use Rattle.invariant.proofs.Alone.{operation-left, bare-fits, own-joined, own-ended}
 use Rattle.formed.proofs.Queues.{queues-join}
-use Rattle.formed.proofs.Formed.{owner, readings, of, Formed}
+use Rattle.formed.proofs.Formed.{readings, of, Formed}
 use Rattle.formed.proofs.Neighbours.{quiet-in_idle, copies-in, queue-room, in-phase, copies-unowned}
 use Rattle.invariant.proofs.Changed.{kept, here, there, formed-changed, formed-one}
 

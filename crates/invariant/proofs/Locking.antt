@@ -7,7 +7,7 @@ use Rattle.model.specs.Lists.{update, occurs}
 use Rattle.model.specs.Codes.{nobody}
 use Rattle.model.specs.Phases.{Phase, idle, lock, check, release, sleep, look, wake, unlock, phase_of, phase_number}
 use Rattle.model.specs.Threads.{entering, with_owner}
-use Rattle.model.specs.Queues.{senders, ready}
+use Rattle.model.specs.Queues.{senders}
 use Rattle.model.specs.Locks.{lock_held}
 use Rattle.model.specs.WellFormed.{nobody_or_below, sends_to}
 use Rattle.model.specs.Step.{take_lock, free_target, take_sender, free_sender, own_after, other_after}

@@ -14,7 +14,7 @@ use Rattle.formed.specs.Groups.{phase_fits, copies_to}
 use Rattle.formed.proofs.Own.{Own}
 use Rattle.invariant.proofs.Alone.{release-fits, copy-fits, woken_fits, own_unpolled, own-entering}
 use Rattle.formed.proofs.Copies.{copies-start}
-use Rattle.formed.proofs.Formed.{owner, readings, of, Formed}
+use Rattle.formed.proofs.Formed.{readings, of, Formed}
 use Rattle.formed.proofs.Neighbours.{target-in_check, number, copies-in, woken_in_wake, in-phase, in_phase_if}
 use Rattle.invariant.proofs.Changed.{kept, here, formed-changed}
 

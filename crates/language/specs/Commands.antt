@@ -8,7 +8,7 @@ use Rattle.model.specs.declared.Operation.{Operation}
 use Rattle.model.specs.Lists.{bit, same_numbers}
 use Rattle.model.specs.Operations.{member}
 use Rattle.model.specs.Threads.{no_operation}
-use Rattle.model.specs.Refusals.{Row, first_refusal, unless}
+use Rattle.model.specs.Refusals.{first_refusal, unless}
 use Rattle.model.specs.Bondtrace.{ascii}
 use Rattle.language.specs.Words.{words, without_return, has_comma, pieces, is_number, value}
 use Rattle.language.specs.Grammar.{rows, first_field, set_row, find_row, number_letters, rest_letter, largest, least, takes_sign, takes_choice, most_more}

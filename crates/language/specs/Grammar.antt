@@ -1,5 +1,5 @@
 -- Which numbers each command takes: a table of rows, one for each command and one for each field that `set` can set.
-use Rattle.std.specs.Prelude.{Bool, cond, ◌&&◌, ◌||◌, List, [], ◌∷◌, ℕ, suc, zero, ◌+◌, ◌*◌, eqb, get_or, take, drop}
+use Rattle.std.specs.Prelude.{Bool, cond, List, [], ◌∷◌, ℕ, suc, zero, ◌+◌, ◌*◌, eqb, get_or, take, drop}
 use Prim.Native.Char.{code}
 use Rattle.model.specs.Lists.{all_below, concat}
 use Rattle.model.specs.Bondtrace.{ascii}

@@ -1,12 +1,12 @@
 -- A number's decimal by its last digit, and how long numbers as text are at most.
 use mathlib.Core.Path.{◌≡◌, refl}
 use mathlib.Core.List.{List, [], ◌∷◌, ◌++◌}
-use Prim.Native.Nat.{ℕ, zero, suc, ◌-◌, ◌*◌, ◌/◌, ◌%◌, ◌^◌, ◌≤◌, ◌<◌}
+use Prim.Native.Nat.{ℕ, zero, suc, ◌*◌, ◌/◌, ◌%◌, ◌^◌, ◌≤◌, ◌<◌}
 use native.Mathlib.Omega.{arith}
-use native.Mathlib.Nat.{mod-lt, mod-eq_of_lt, le-div_iff_mul-le, div-lt_iff_lt-mul, one-le-pow}
+use native.Mathlib.Nat.{mod-eq_of_lt, div-lt_iff_lt-mul}
 use lib.ListN.{length, get_or, length-append}
 use lib.Dec.{ltb}
-use borrow.Author.Tests.{lt-ltb, le-ltb, ltb-true, ltb-false}
+use borrow.Author.Tests.{lt-ltb, le-ltb, ltb-false}
 use Rattle.model.specs.Lists.{up_to, concat}
 use Rattle.model.specs.Bondtrace.{ascii, digit, digits, decimal, spaced}
 use Rattle.model.proofs.Laws.{by}

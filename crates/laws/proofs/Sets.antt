@@ -4,7 +4,7 @@ use mathlib.Core.Logic.{◌≢◌}
 use mathlib.Core.Bool.{true, false, true≢false}
 use Prim.Native.Nat.{ℕ, zero, suc, ◌+◌, ◌-◌, ◌*◌, ◌/◌, ◌%◌, ◌^◌, ◌≤◌, ◌<◌}
 use native.Mathlib.Omega.{arith}
-use native.Mathlib.Nat.{div-eq_of_lt-le, zero-add, suc-add, div-eq_of_lt, div_self, zero-div, mul-div_cancel, pow-suc, lt_of_lt_of_le, one-mul, le-div_iff_mul-le, div-lt_iff_lt-mul, add-div_right}
+use native.Mathlib.Nat.{div-eq_of_lt-le, zero-add, suc-add, div-eq_of_lt, div_self, mul-div_cancel, pow-suc, lt_of_lt_of_le, one-mul, le-div_iff_mul-le, div-lt_iff_lt-mul, add-div_right}
 use lib.Dec.{eqb, leb, ltb}
 use lib.Pow.{pow_pos, pow_mono, pow-lt, pow-add}
 use borrow.Author.Tests.{eq-eqb, ne_eqb, le-leb, lt-leb, leb-true, leb-false, lt-ltb, eqb-false}

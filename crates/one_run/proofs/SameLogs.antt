@@ -1,7 +1,7 @@
 -- The two logs of one run are the same, entry by entry, and so they agree.
 use mathlib.Core.Path.{◌≡◌, refl, sym, ap, ◌∙◌, subst}
 use mathlib.Core.Logic.{◌≢◌}
-use mathlib.Core.Bool.{true, false, false≢true}
+use mathlib.Core.Bool.{true, false≢true}
 use mathlib.Core.Option.{none, some}
 use mathlib.Core.List.{List, [], ◌∷◌, ◌++◌}
 use Prim.Native.Nat.{ℕ}
@@ -19,7 +19,6 @@ use Rattle.model.proofs.Laws.{all_of-read}
 use Rattle.laws.proofs.Lists.{update_same, update_other}
 use Rattle.linearization.proofs.Represents.{Represents, first-represents, call_simulated}
 use Rattle.linearization.proofs.Demand.{represents-shown}
-use Rattle.logs.specs.declared.Log.{Log}
 use Rattle.logs.specs.Comparison.{Logged, entries_of, compare, compare_answer, Pairing}
 use Rattle.logs.specs.OneRun.{begun_by, sent_at, received_at, send_log, receive_log, Holds, OneRunAgrees}
 use Rattle.agreement.proofs.Pairings.{paired-agree}

@@ -7,9 +7,8 @@ use Prim.Native.Nat.{ℕ, zero, suc, ◌+◌, ◌<◌}
 use native.Mathlib.Omega.{arith}
 use lib.ListN.{length, drop, length-append}
 use lib.Seq.{drop-drop}
-use lib.Dec.{eqb}
 use Rattle.model.specs.Lists.{bit, concat}
-use Rattle.model.specs.RecordBytes.{begin_kind, record_length, kind_byte, word_at, lawful}
+use Rattle.model.specs.RecordBytes.{record_length, kind_byte, word_at, lawful}
 use Rattle.model.specs.Decoding.{front, operation_of, set_operation_of, record_of}
 use Rattle.model.specs.Encoding.{operation_bytes, encode}
 use Rattle.model.specs.Schedule.{is_empty, read_from, encode_all}

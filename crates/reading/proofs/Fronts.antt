@@ -14,7 +14,7 @@ use Rattle.model.specs.RecordBytes.{table_kind, begin_kind, set_kind, is_begin, 
 use Rattle.model.specs.Decoding.{operation_of, set_operation_of, operation_by, front}
 use Rattle.model.proofs.Laws.{by, same?, and_left, all_of-read}
 use Rattle.laws.proofs.Below.{up_to-alike, all-below-alike}
-use Rattle.laws.proofs.Schedule.{by_kind, begin_kinds, no-begin, no-set, must_set, front-kind, record_begin, record_set, front-byte, head_byte, front-thread}
+use Rattle.laws.proofs.Schedule.{by_kind, no-begin, no-set, must_set, front-kind, record_begin, record_set, front-byte, head_byte, front-thread}
 use Rattle.reading.specs.Heads.{lawful_head}
 use Rattle.reading.proofs.Begins.{word_lawful}
 

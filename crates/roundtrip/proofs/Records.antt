@@ -19,7 +19,7 @@ use Rattle.model.specs.Threads.{no_operation}
 use Rattle.model.specs.RecordBytes.{begin_kind, set_kind, is_begin, lawful_set, record_length, byte, kind_byte, send_bit, receive_bit, open_bit, word_at, lawful_begin, lawful}
 use Rattle.model.specs.Encoding.{word_bytes, set_bytes, parts_of, operation_bytes, encode, all_zero, lawful_record}
 use Rattle.model.specs.Decoding.{operation_of, set_operation_of, operation_by, record_of, front}
-use Rattle.model.proofs.Laws.{by, alike_read, and_left, and_right, implies-read, implies-made, all_of-read, all_of-made, ◌and◌}
+use Rattle.model.proofs.Laws.{alike_read, and_left, and_right, implies-read, implies-made, all_of-read, all_of-made, ◌and◌}
 use Rattle.laws.proofs.Joined.{take-under}
 use Rattle.laws.proofs.Schedule.{is-begin, is_set, no-begin, no-set, record_begin, record_set, record_other, begin_kinds, by_kind, words-length, set-length, length-tells, lawful-length, lawful-least}
 use Rattle.roundtrip.specs.Fits.{Bytes, FitsOperation, FitsRecord}

@@ -1,5 +1,4 @@
 use Rattle.std.proofs.Common.{List, map, ap, rules}
-use lib.ListN.{length-map}
 use Rattle.model.specs.declared.Thread.{Thread}
 use Rattle.model.specs.Threads.{zero_thread}
 use Rattle.few.proofs.Fronts.{whole_four}

@@ -1,6 +1,6 @@
 use mathlib.Core.Path.{◌≡◌, sym, ◌∙◌}
 use native.Mathlib.Omega.{arith}
-use lib.ListN.{length, length-map, get_or-eq_default}
+use lib.ListN.{length, get_or-eq_default}
 use borrow.Author.Rules.{rules}
 use Rattle.report.specs.Report.{zero_outcome}
 use Rattle.report.proofs.outcome_in.Statement.{statement}

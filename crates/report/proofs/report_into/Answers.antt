@@ -1,4 +1,4 @@
-use Rattle.std.proofs.Common.{rules, ◌≡◌, ◌+◌, ◌<◌, ◌≤◌, length, arith, sym, ◌∙◌}
+use Rattle.std.proofs.Common.{rules, ◌≡◌, ◌<◌, length, arith, ◌∙◌}
 use Rattle.report.proofs.Reports.{filled_none, filled_more}
 use Rattle.report.proofs.Laws.{fits-records, outcome-there, promised}
 use Rattle.report.proofs.report_into.Goals as goal

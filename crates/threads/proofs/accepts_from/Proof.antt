@@ -1,4 +1,4 @@
-use mathlib.Core.Path.{refl, sym}
+use mathlib.Core.Path.{sym}
 use borrow.Author.Rules.{rules}
 use Rattle.model.specs.Operations.{closed_on}
 use Rattle.laws.proofs.Sets.{no_member, one-member}
