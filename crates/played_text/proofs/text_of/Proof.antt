@@ -10,14 +10,14 @@ use Rattle.played_text.proofs.text_of.Statement.{statement}
 use Rattle.played_text.proofs.text_of.Tie as tie
 
 -- once the table record was read and not refused: the playback is that of this record, and its store is the first of the zeros
-starts : (c : tie.After-start-1) → Starts c.before.before.before.«open».result.playback c.before.before.before.before.before.before.args.bytes.now
+starts : (c : tie.After-start-1) → Starts c.before.before.before.open-opened.result.playback c.before.before.before.before.before.before.args.bytes.now
 starts c =
-    let opening = c.before.before.before.«open».ensures in
+    let opening = c.before.before.before.open-opened.ensures in
     let accepted = c.before.if-opened-ne0.false in
     opening_starts _ _ (sym opening.0 ∙ accepted) opening.1.0 (opening.1.1 accepted).0
 
-stored : (c : tie.After-start-1) → let t = c.before.before.before.«open».result.playback in Stored t (8 * t.table.n) (zeros 256)
-stored c = stored-first _ _ (c.before.before.before.«open».ensures.1.1 c.before.if-opened-ne0.false).1 refl
+stored : (c : tie.After-start-1) → let t = c.before.before.before.open-opened.result.playback in Stored t (8 * t.table.n) (zeros 256)
+stored c = stored-first _ _ (c.before.before.before.open-opened.ensures.1.1 c.before.if-opened-ne0.false).1 refl
 
 -- from where it was played, and where it ended, back to there
 abbrev began : tie.After-play-played → tie.After-start-1
