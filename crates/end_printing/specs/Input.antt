@@ -1,5 +1,7 @@
 -- What is known of the text that is printed for an input: how it starts and how long it is, but not which bytes the operating system delivered.
-use Rattle.std.specs.Prelude.{◌≡◌, ◌⊎◌, List, ◌++◌, ℕ, ◌≤◌, length}
+use Rattle.std.specs.Prelude.{◌≡◌, ◌⊎◌, List, [], ◌++◌, ℕ, ◌≤◌, length}
+use Rattle.std.specs.Io.KnownBytes.{Appends}
+use Rattle.std.specs.declared.option.Option.{Option}
 use Rattle.model.specs.Bondtrace.{ascii, bondtrace}
 
 -- an input of fewer bytes is played to its end: 2^63
@@ -15,3 +17,10 @@ pub record Told (first : List ℕ) (delivered : ℕ) (text : List ℕ) : Type 0 
   pub more : List ℕ
   pub counted : length (first ++ more) ≡ delivered
   pub told : (text ≡ bondtrace (first ++ more)) ⊎ ((text ≡ too_long) × (most_bytes ≤ delivered))
+
+-- where it is known what a writer held and holds, it grew by the text of some input of as many bytes as were delivered, and by nothing else
+pub record TellsSome (before after : Option (List ℕ)) : Type 0 where
+  pub delivered : ℕ
+  pub text : List ℕ
+  pub told : Told [] delivered text
+  pub appended : Appends before after text

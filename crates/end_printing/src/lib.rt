@@ -8,7 +8,7 @@ ghost use Rattle.model.specs.Bondtrace.{bondtrace};
 ghost use Rattle.text.specs.Writing.{Counts, Printed};
 ghost use Rattle.opening.specs.Opened.{Steady};
 ghost use Rattle.played_text.specs.Known.{Reached, Starts, longest_end};
-ghost use Rattle.end_printing.specs.Input.{Told};
+ghost use Rattle.end_printing.specs.Input.{Told, TellsSome};
 
 use opening::Playback;
 use refill::Supply;
@@ -132,7 +132,9 @@ fn print_text<W: Write>(output: &mut W, text: &[u8], delivered: u64) -> io::Resu
 }
 
 // Plays the schedule that an input delivers, and prints how it ends.
-pub fn run<R: Read, W: Write>(input: &mut R, output: &mut W) -> io::Result<()> {
+pub fn run<R: Read, W: Write>(input: &mut R, output: &mut W) -> io::Result<()>
+    ensures { OnOk result (TellsSome (W.contents output.old) (W.contents output.new)) }
+{
     let mut space = [0u8; 65536];
     let buffer: &mut [u8] = &mut space;
     let mut out = [0u8; 4096];
