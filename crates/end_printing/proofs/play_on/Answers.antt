@@ -52,8 +52,8 @@ returns-then-supply-left-clause-told g c =
 pub loop-supply-preserved : goal.loop-supply-preserved
 loop-supply-preserved g c = record {
   fills =
-    fills_on c.loop-supply.invariant.fills _ _ _ c.play-played.ensures.played c.play-played.ensures.carries c.if-played.false _ _ _ _ refl
-    c.in_ok-supply.ensures.filled c.in_ok-supply.ensures.counted;
+      fills_on c.loop-supply.invariant.fills _ _ _ c.play-played.ensures.played c.play-played.ensures.carries c.if-played.false _ _ _ _ refl
+      c.in_ok-supply.ensures.filled c.in_ok-supply.ensures.counted;
   room = c.loop-supply.invariant.room;
 }
 

@@ -7,7 +7,7 @@ use Rattle.end_printing.proofs.play_on.Given as goal
 abbrev pub invariant-loop-supply : goal.invariant-loop-supply
 invariant-loop-supply g l = record {
   fills : Fills (take l.initial.supply.end l.initial.buffer) l.buffer l.words l.size l.playback l.start l.supply.end l.supply.delivered;
-  room : length l.out ≡ 4096
+  room : length l.out ≡ 4096;
 }
 
 -- each time round more was delivered

@@ -11,7 +11,7 @@ invariant-loop-i g l = record {
   same_length : length l.out ≡ length l.initial.out;
   as_many : l.count ≡ length (threads_of l.row l.numbers);
   short : l.size ≤ longest_record;
-  rest : lawful_row l.first (records_asked l.row l.numbers l.op) ≡ lawful_from l.first l.row l.op (threads_of l.row l.numbers) l.i
+  rest : lawful_row l.first (records_asked l.row l.numbers l.op) ≡ lawful_from l.first l.row l.op (threads_of l.row l.numbers) l.i;
 }
 
 -- how many records are left
