@@ -21,27 +21,24 @@ returns-2 c =
 
 returns-3 : tie.Need-returns-then-kind-eq-STEP
 unfolding ascii up_to
-returns-3 c =
-    (
-      rw (line_of_step c.args.item (ne_eqb _ _ c.if-kind-eq-TABLE.false) (sym c.is_begin.ensures ∙ c.if-is_begin.false) (eq-eqb _ _ c.if-kind-eq-STEP.true)) c.put_named-then-kind-eq-STEP.ensures,
-      line-short _ (record_typed _ _ c.well_formed.1.1.0),
-    )
+returns-3 c = (
+  rw (line_of_step c.args.item (ne_eqb _ _ c.if-kind-eq-TABLE.false) (sym c.is_begin.ensures ∙ c.if-is_begin.false) (eq-eqb _ _ c.if-kind-eq-STEP.true)) c.put_named-then-kind-eq-STEP.ensures,
+  line-short _ (record_typed _ _ c.well_formed.1.1.0),
+)
 
 returns-4 : tie.Need-returns-then-kind-eq-CANCEL
 unfolding ascii up_to
-returns-4 c =
-    (
-      rw (line_of_cancel c.args.item (ne_eqb _ _ c.if-kind-eq-TABLE.false) (sym c.is_begin.ensures ∙ c.if-is_begin.false) (ne_eqb _ _ c.if-kind-eq-STEP.false) (eq-eqb _ _ c.if-kind-eq-CANCEL.true)) c.put_named-then-kind-eq-CANCEL.ensures,
-      line-short _ (record_typed _ _ c.well_formed.1.1.0),
-    )
+returns-4 c = (
+  rw (line_of_cancel c.args.item (ne_eqb _ _ c.if-kind-eq-TABLE.false) (sym c.is_begin.ensures ∙ c.if-is_begin.false) (ne_eqb _ _ c.if-kind-eq-STEP.false) (eq-eqb _ _ c.if-kind-eq-CANCEL.true)) c.put_named-then-kind-eq-CANCEL.ensures,
+  line-short _ (record_typed _ _ c.well_formed.1.1.0),
+)
 
 returns-5 : tie.Need-returns
 unfolding ascii up_to
-returns-5 c =
-    (
-      rw (line_of_tick c.args.item (ne_eqb _ _ c.if-kind-eq-TABLE.false) (sym c.is_begin.ensures ∙ c.if-is_begin.false) (ne_eqb _ _ c.if-kind-eq-STEP.false) (ne_eqb _ _ c.if-kind-eq-CANCEL.false)) c.put_text.ensures,
-      line-short _ (record_typed _ _ c.well_formed.1.1.0),
-    )
+returns-5 c = (
+  rw (line_of_tick c.args.item (ne_eqb _ _ c.if-kind-eq-TABLE.false) (sym c.is_begin.ensures ∙ c.if-is_begin.false) (ne_eqb _ _ c.if-kind-eq-STEP.false) (ne_eqb _ _ c.if-kind-eq-CANCEL.false)) c.put_text.ensures,
+  line-short _ (record_typed _ _ c.well_formed.1.1.0),
+)
 
 pub put_record_spec : {M : Type 1} → statement M
 put_record_spec =
