@@ -18,7 +18,7 @@ use Rattle.opening.specs.Opened.{Steady}
 use Rattle.playing.specs.Playback.{Playable, PlayPromise, Carries}
 use Rattle.played_text.specs.Known.{Reached, Starts, Settled, longest_end}
 use Rattle.played_text.proofs.Known.{reached-more, reached-short}
-use Rattle.played_text.proofs.Stores.{Stored, zeros, stored-first, words-there, words-length, zeros-taken, array, stored_on, array_starts}
+use Rattle.played_text.proofs.Stores.{Stored, zeros, stored-first, words-length, zeros-taken, array, stored_on, array_starts}
 use Rattle.end_printing.specs.Input.{most_bytes, too_long, Told}
 
 -- the bytes of a buffer from start to end

@@ -13,7 +13,7 @@ use Rattle.model.specs.declared.Operation.{Operation}
 use Rattle.model.specs.RecordBytes.{tick_kind}
 use Rattle.model.specs.Refusals.{unless}
 use Rattle.roundtrip.specs.Fits.{Bytes}
-use Rattle.language.specs.Commands.{Command, skipped, wrong, asked, command_of}
+use Rattle.language.specs.Commands.{Command, wrong, asked, command_of}
 use Rattle.language.specs.RecordText.{threads_of, records_asked, lawful_row, records_of}
 use Rattle.language.specs.ScheduleText.{first_after}
 use Rattle.commands.specs.declared.Parsed.{Parsed}

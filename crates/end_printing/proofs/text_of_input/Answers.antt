@@ -1,7 +1,7 @@
 use Rattle.std.proofs.Common.{arith, ◌≡◌, ℕ, ◌+◌, ◌≤◌, List, length, take, sym, ◌∙◌}
 use lib.Seq.{length-take-le}
 use Rattle.played_text.proofs.Whole.{opening_starts}
-use Rattle.end_printing.proofs.Filling.{refused-told, told-least, told-later}
+use Rattle.end_printing.proofs.Filling.{refused-told}
 use Rattle.end_printing.proofs.text_of_input.Goals as goal
 
 -- at the entry: the bytes that were delivered stand in the buffer

@@ -1,7 +1,4 @@
-use Rattle.std.proofs.Common.{arith, rules, ◌≡◌, ◌<◌, Bool, true, false, length, get_or, sym, ◌∙◌, ap}
-use mathlib.Core.Bool.{◌&&◌}
-use lib.Dec.{eqb}
-use borrow.Author.Tests.{not-true, not-false}
+use Rattle.std.proofs.Common.{arith, rules, ◌<◌, length, sym, ◌∙◌, ap}
 use Rattle.model.specs.Encoding.{lawful_record}
 use Rattle.laws.proofs.Schedule.{record_longest}
 use Rattle.language.specs.RecordText.{threads_of}
