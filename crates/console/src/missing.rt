@@ -13,7 +13,8 @@ fn words_of(text: &str) -> &str {
 // Prints why a script could not be opened: its name, and the words of the error.
 pub fn say_missing<E: Write>(errors: &mut E, name: &[u8], error: Error) -> io::Result<()> {
     let mut told = Cursor::new([0u8; 256]);
-    write!(told, "{error}")?;
+    // words that do not fit are cut
+    let _ = write!(told, "{error}");
     let end = numbers::lesser(told.position() as usize, 256);
     let text = told.into_inner();
     let words = str::from_utf8(&text[..end]).unwrap_or("");

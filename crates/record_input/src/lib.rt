@@ -2,9 +2,10 @@
 
 #![tactic(auto)]
 
-ghost use Rattle.std.specs.Prelude.{◌≡◌, ◌≤◌, length, IfOk};
+ghost use Rattle.std.specs.Prelude.{◌≡◌, ◌≤◌, length, IfOk, OnErr};
 ghost use Rattle.model.specs.RecordBytes.{longest_record};
 ghost use Rattle.model.specs.Decoding.{decode};
+ghost use Rattle.refill.specs.Refilled.{MovedDown};
 ghost use Rattle.record_input.specs.Places.{Within, Places};
 
 use model::{Answer, Record};
@@ -57,6 +58,7 @@ fn unread<R: Read>(input: &mut R, buffer: &mut [u8], left: Span) -> io::Result<S
     requires { Within (length buffer.old) left }
     ensures buffer_len_unchanged { length buffer.new ≡ length buffer.old }
     ensures within { IfOk result (λ span. Within (length buffer.new) span) }
+    ensures err { OnErr result (MovedDown left.start left.end buffer.old buffer.new) }
 {
     let start = left.start;
     let end = left.end;
@@ -108,6 +110,7 @@ pub fn next_record<R: Read>(
     requires { Within (length buffer.old) before }
     ensures buffer_len_unchanged { length buffer.new ≡ length buffer.old }
     ensures places { IfOk result (λ next. Places first buffer.new next) }
+    ensures err { OnErr result (MovedDown before.start before.end buffer.old buffer.new) }
 {
     let rest = unread(input, buffer, before)?;
     let start = rest.start;

@@ -1,4 +1,4 @@
--- What the console answers to `search`, `rules`, `compare` and `rest`, in the words of its table of commands.
+-- What the console answers to `search`, `rules` and `compare`, in the words of its table of commands; and the text of whether a table is at rest.
 use Rattle.std.specs.Prelude.{cond, List, [], ◌++◌, ℕ, eqb}
 use Rattle.model.specs.declared.Answer.{Answer}
 use Rattle.model.specs.declared.Pair.{Pair}

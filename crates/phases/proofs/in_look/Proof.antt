@@ -1,6 +1,8 @@
-use mathlib.Core.Path.{refl, ◌∙◌}
+use mathlib.Core.Path.{◌≡◌, refl, ◌∙◌}
+use mathlib.Core.Logic.{◌≢◌}
 use borrow.Author.Rules.{rules}
 use borrow.Author.Tests.{not-true, not-false, eq-eqb, ne_eqb}
+use Rattle.model.specs.Codes.{nobody}
 use Rattle.laws.proofs.Decisions.{look-ended, look-cancelled}
 use Rattle.laws.proofs.Lists.{cond-true, cond-false}
 use Rattle.phases.specs.Fit.{found_as}
@@ -26,14 +28,17 @@ returns-2 c =
 
 look-alone-requires : tie.Need-look_alone-requires
 unfolding found_as
-look-alone-requires c κs = record { runs = not-false c.before.before.before.before.before.args.own.flags.ipc c.before.before.if-not-flags.false; unmarked = c.before.if-flags.false; found = c.before.before.before.before.before.requires ∙ cond-true _ _ _ (eq-eqb _ _ c.if-o-eq-NOBODY.true) }
-
-returns-3 : tie.Need-returns-then-o-eq-NOBODY
-returns-3 c = search rules
+look-alone-requires c κs =
+    let a = c.before.before.before.before.before.args in
+    let nobody-found : a.o ≡ nobody = search rules in
+    record { runs = not-false a.own.flags.ipc c.before.before.if-not-flags.false; unmarked = c.before.if-flags.false; found = c.before.before.before.before.before.requires ∙ cond-true _ _ _ (eq-eqb _ _ nobody-found) }
 
 look-at-sender-requires : tie.Need-look_at_sender-requires
 unfolding found_as
-look-at-sender-requires c κs = record { runs = not-false c.before.before.before.before.before.args.own.flags.ipc c.before.before.if-not-flags.false; unmarked = c.before.if-flags.false; found = c.before.before.before.before.before.requires ∙ cond-false _ _ _ (ne_eqb _ _ c.if-o-eq-NOBODY.false) }
+look-at-sender-requires c κs =
+    let a = c.before.before.before.before.before.args in
+    let somebody-found : a.o ≢ nobody = search rules in
+    record { runs = not-false a.own.flags.ipc c.before.before.if-not-flags.false; unmarked = c.before.if-flags.false; found = c.before.before.before.before.before.requires ∙ cond-false _ _ _ (ne_eqb _ _ somebody-found) }
 
 returns-4 : tie.Need-returns
 returns-4 c = search rules
@@ -47,6 +52,6 @@ in_look_spec =
     end-by-requires
     returns-2
     look-alone-requires
-    returns-3
+    (λ c. search rules)
     look-at-sender-requires
     returns-4)
