@@ -18,7 +18,7 @@ pub record Told (first : List ℕ) (delivered : ℕ) (text : List ℕ) : Type 0 
   pub counted : length (first ++ more) ≡ delivered
   pub told : (text ≡ bondtrace (first ++ more)) ⊎ ((text ≡ too_long) × (most_bytes ≤ delivered))
 
--- where it is known what a writer held and holds, it grew by the text of some input of as many bytes as were delivered, and by nothing else
+-- where it is known what a writer held and holds, it grew by one text and by nothing else: that of some input. Which one it is, is not said here
 pub record TellsSome (before after : Option (List ℕ)) : Type 0 where
   pub delivered : ℕ
   pub text : List ℕ

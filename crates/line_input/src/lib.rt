@@ -2,7 +2,7 @@
 
 #![tactic(auto)]
 
-ghost use Rattle.std.specs.Prelude.{◌≡◌, ◌≤◌, length, IfOk, OnErr};
+ghost use Rattle.std.specs.Prelude.{◌≡◌, ◌≤◌, length, IfOk};
 ghost use Rattle.refill.specs.Refilled.{MovedDown};
 ghost use Rattle.line_input.specs.Fed.{Fed, TakenFrom};
 
@@ -126,7 +126,7 @@ pub fn read_on<R: Read>(input: &mut R, buffer: &mut [u8], feed: Feed) -> io::Res
     requires { Fed (length buffer.old) feed }
     ensures fed { IfOk result (λ after. Fed (length buffer.new) after) }
     ensures buffer_len_unchanged { length buffer.new ≡ length buffer.old }
-    ensures err { OnErr result (MovedDown feed.start feed.end buffer.old buffer.new) }
+    ensures moved { MovedDown feed.start feed.end buffer.old buffer.new }
 {
     let start = feed.start;
     let rest = feed.end - start;

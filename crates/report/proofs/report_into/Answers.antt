@@ -1,4 +1,6 @@
-use Rattle.std.proofs.Common.{rules, ◌≡◌, ◌<◌, length, arith, ◌∙◌}
+use Rattle.std.proofs.Common.{rules, ◌≡◌, ◌<◌, length, arith, ◌∙◌, List, sym, subst}
+use Rattle.model.specs.declared.Outcome.{Outcome}
+use Rattle.model.specs.Promise.{ReportPromise}
 use Rattle.report.proofs.Reports.{filled_none, filled_more}
 use Rattle.report.proofs.Laws.{fits-records, outcome-there, promised}
 use Rattle.report.proofs.report_into.Goals as goal
@@ -23,4 +25,4 @@ loop-i-preserved c =
 pub returns : goal.returns
 returns c =
     let all : c.loop-i.i ≡ c.reported-report.result.len = omega arith in
-    rw c.loop-i.invariant.1 (promised _ _ _ _ c.reported-report.ensures all)
+    subst (λ (l : List Outcome). ReportPromise c.args.table c.args.records.now c.reported-report.result.answer l) (sym c.loop-i.invariant.1) (promised _ _ _ _ c.reported-report.ensures all)
