@@ -3,7 +3,7 @@
 #![tactic(auto)]
 
 // The five flags of a thread; mark: a cancel was asked for.
-#[derive(Clone, Copy)]
+#[derive(Clone, Copy, PartialEq, Eq)]
 pub struct Flags {
     pub ipc: bool,
     pub send: bool,
@@ -13,7 +13,7 @@ pub struct Flags {
 }
 
 // A send part: to whom, how many of the eight words, and a time code. Where it is not present the rest is unused.
-#[derive(Clone, Copy)]
+#[derive(Clone, Copy, PartialEq, Eq)]
 pub struct SendPart {
     pub present: bool,
     pub target: u8,
@@ -23,14 +23,14 @@ pub struct SendPart {
 }
 
 // How long a receive waits, by its time code, and for whom; an open receive does not use the partner.
-#[derive(Clone, Copy)]
+#[derive(Clone, Copy, PartialEq, Eq)]
 pub struct Wait {
     pub time: u8,
     pub partner: u8,
 }
 
 // A receive part: none, open, closed on one partner, or closed on a set of threads: a time code, and one bit for each thread, thread 0 the lowest.
-#[derive(Clone, Copy)]
+#[derive(Clone, Copy, PartialEq, Eq)]
 pub enum Receive {
     Absent,
     Open(Wait),
@@ -39,28 +39,28 @@ pub enum Receive {
 }
 
 // An operation: a send part or none, and a receive part or none.
-#[derive(Clone, Copy)]
+#[derive(Clone, Copy, PartialEq, Eq)]
 pub struct Operation {
     pub send: SendPart,
     pub receive: Receive,
 }
 
 // The entry through which an operation begins: the main one, or the spark entry, which takes at most three words.
-#[derive(Clone, Copy)]
+#[derive(Clone, Copy, PartialEq, Eq)]
 pub enum EntryPoint {
     Main,
     Spark,
 }
 
 // The senders that wait at a thread: the first len of items, the earliest first.
-#[derive(Clone, Copy)]
+#[derive(Clone, Copy, PartialEq, Eq)]
 pub struct Queue {
     pub items: [u8; 32],
     pub len: u8,
 }
 
 // How a thread's latest operation stands; also one record of a report.
-#[derive(Clone, Copy)]
+#[derive(Clone, Copy, PartialEq, Eq)]
 pub struct Outcome {
     pub code: i32,
     pub source: u8,
@@ -69,7 +69,7 @@ pub struct Outcome {
 
 // A thread. left is 65535 for never, owner 255 for none. Two fields are not in document 01's list:
 // copied, how many words the running copy has delivered, and waking, the sender whose lock wake and unlock hold.
-#[derive(Clone, Copy)]
+#[derive(Clone, Copy, PartialEq, Eq)]
 pub struct Thread {
     pub flags: Flags,
     pub phase: u8,
@@ -83,14 +83,14 @@ pub struct Thread {
 }
 
 // Thread numbers from one to another, both included; none where the first is above the second.
-#[derive(Clone, Copy)]
+#[derive(Clone, Copy, PartialEq, Eq)]
 pub struct Range {
     pub from: u8,
     pub to: u8,
 }
 
 // A row of rules: whether these senders may send to these targets.
-#[derive(Clone, Copy)]
+#[derive(Clone, Copy, PartialEq, Eq)]
 pub struct Rule {
     pub senders: Range,
     pub targets: Range,
@@ -98,14 +98,14 @@ pub struct Rule {
 }
 
 // Who may send to whom: the first len of rows; every pair may where there are none. A len above 64 stands for more rows than there is room for.
-#[derive(Clone, Copy)]
+#[derive(Clone, Copy, PartialEq, Eq)]
 pub struct Rules {
     pub rows: [Rule; 64],
     pub len: u8,
 }
 
 // The table: its first n threads are in use.
-#[derive(Clone, Copy)]
+#[derive(Clone, Copy, PartialEq, Eq)]
 pub struct Table {
     pub n: u8,
     pub threads: [Thread; 32],
@@ -113,14 +113,14 @@ pub struct Table {
 }
 
 // A sender and its target.
-#[derive(Clone, Copy)]
+#[derive(Clone, Copy, PartialEq, Eq)]
 pub struct Pair {
     pub sender: u8,
     pub target: u8,
 }
 
 // How rules fit a table: each pair falls in one row exactly; or there are too many rows, or a pair falls in none, or in several.
-#[derive(Clone, Copy)]
+#[derive(Clone, Copy, PartialEq, Eq)]
 pub enum Misfit {
     Fits,
     TooMany,
@@ -129,7 +129,7 @@ pub enum Misfit {
 }
 
 // What every call but outcome answers: making a table, begin, step, cancel, tick, report, reading and writing a record.
-#[derive(Clone, Copy)]
+#[derive(Clone, Copy, PartialEq, Eq)]
 pub enum Answer {
     Refused(u8),
     Accepted,
@@ -143,14 +143,14 @@ pub enum Answer {
 }
 
 // An answer and the table after the call.
-#[derive(Clone, Copy)]
+#[derive(Clone, Copy, PartialEq, Eq)]
 pub struct Returned {
     pub answer: Answer,
     pub table: Table,
 }
 
 // What loading rules returns: an answer, the pair by which they do not fit, and the table after the call.
-#[derive(Clone, Copy)]
+#[derive(Clone, Copy, PartialEq, Eq)]
 pub struct Loaded {
     pub answer: Answer,
     pub misfit: Misfit,
@@ -158,14 +158,14 @@ pub struct Loaded {
 }
 
 // What the outcome call answers; the words are handed back as a slice of the store.
-#[derive(Clone, Copy)]
+#[derive(Clone, Copy, PartialEq, Eq)]
 pub enum OutcomeAnswer {
     Refused(u8),
     Shown(Outcome),
 }
 
 // One record of a schedule: kind 0 table, 1 begin, 2 step, 3 cancel, 4 tick, 5 begin with a set. Only a begin uses op; thread is N for a table and 0 for a tick.
-#[derive(Clone, Copy)]
+#[derive(Clone, Copy, PartialEq, Eq)]
 pub struct Record {
     pub kind: u8,
     pub thread: u8,
@@ -173,7 +173,7 @@ pub struct Record {
 }
 
 // What reading one record answers; refused, the item is all zero.
-#[derive(Clone, Copy)]
+#[derive(Clone, Copy, PartialEq, Eq)]
 pub struct Decoded {
     pub answer: Answer,
     pub item: Record,
