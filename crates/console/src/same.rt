@@ -1,5 +1,4 @@
 // Whether two stores are the same, and whether records are as they were before a report.
-use comparing::same_outcome;
 use model::Outcome;
 
 // The same store.
@@ -20,7 +19,7 @@ pub fn kept_records(records: [Outcome; 40]) -> bool {
     let mut i: usize = 0;
     while i < 40 {
         let outcome = records[i];
-        if !same_outcome(outcome, before) {
+        if outcome != before {
             return false;
         }
         i += 1;

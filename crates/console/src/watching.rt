@@ -1,6 +1,5 @@
 // What a refused line changed, told: nothing, as every public call promises.
 use crate::same::{kept_records, same_store};
-use comparing::same_table;
 use dialogue::Session;
 use model::Answer;
 use std::io;
@@ -36,7 +35,7 @@ fn compare<W: Write>(
 ) -> io::Result<()> {
     let old = before.table;
     let new = after.table;
-    unless(output, same_table(old, new), b"changed: table\n")?;
+    unless(output, old == new, b"changed: table\n")?;
     unless(output, same_store(stored, store), b"changed: store\n")?;
     let filled = telling::report_to(new, after.records);
     let answer = filled.answer;

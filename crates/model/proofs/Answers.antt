@@ -2,8 +2,8 @@
 use mathlib.Core.Path.{◌≡◌, refl, sym, ap, ◌∙◌}
 use Rattle.model.specs.declared.Answer.{Answer}
 use Rattle.model.specs.declared.Answer.TheVariants.{Refused, Accepted, Marked, NothingToCancel, Moved, Idle, Held, Wants, Asleep}
-use Rattle.model.specs.declared.OutcomeAnswer.{OutcomeAnswer}
-use Rattle.model.specs.declared.OutcomeAnswer.TheVariants.{Refused as NotShown, Shown}
+use Rattle.std.specs.Prelude.{ℕ, Result, Ok, Err}
+use Rattle.model.specs.declared.Outcome.{Outcome}
 use Rattle.model.specs.Answers.{accepted, marked, nothing_to_cancel, moved, idle, held, wants, asleep, Said, refused, replied, said, SaidOutcome, shown, said_outcome}
 
 -- the answer that stands for what was said
@@ -45,13 +45,13 @@ said-answering (replied asleep) = refl
 pub said-settles : (a b : Answer) → said a ≡ said b → a ≡ b
 said-settles a b e = sym (answering-said a) ∙ ap answering e ∙ answering-said b
 
-abbrev showing : SaidOutcome → OutcomeAnswer
-showing (SaidOutcome.refused number) = NotShown number
-showing (shown outcome) = Shown outcome
+abbrev showing : SaidOutcome → Result Outcome ℕ
+showing (SaidOutcome.refused number) = Err number
+showing (shown outcome) = Ok outcome
 
-showing-said : (a : OutcomeAnswer) → showing (said_outcome a) ≡ a
-showing-said (NotShown number) = refl
-showing-said (Shown outcome) = refl
+showing-said : (a : Result Outcome ℕ) → showing (said_outcome a) ≡ a
+showing-said (Err number) = refl
+showing-said (Ok outcome) = refl
 
-pub outcome-settles : (a b : OutcomeAnswer) → said_outcome a ≡ said_outcome b → a ≡ b
+pub outcome-settles : (a b : Result Outcome ℕ) → said_outcome a ≡ said_outcome b → a ≡ b
 outcome-settles a b e = sym (showing-said a) ∙ ap showing e ∙ showing-said b

@@ -1,10 +1,8 @@
 -- Document 01's answers, and for each case of an answer enum the number or value that it stands for. Promises speak of these.
-use Rattle.std.specs.Prelude.{ℕ}
+use Rattle.std.specs.Prelude.{ℕ, Result, Ok, Err}
 use Rattle.model.specs.declared.Outcome.{Outcome}
 use Rattle.model.specs.declared.Answer.{Answer}
 use Rattle.model.specs.declared.Answer.TheVariants.{Refused, Accepted, Marked, NothingToCancel, Moved, Idle, Held, Wants, Asleep}
-use Rattle.model.specs.declared.OutcomeAnswer.{OutcomeAnswer}
-use Rattle.model.specs.declared.OutcomeAnswer.TheVariants.{Refused as NotShown, Shown}
 
 -- what a call answers where it is not refused
 pub data Reply : Type 0 where
@@ -32,10 +30,10 @@ pub data SaidOutcome : Type 0 where
   refused : ℕ → SaidOutcome
   shown : Outcome → SaidOutcome
 
--- what each case of `OutcomeAnswer` stands for
-abbrev pub said_outcome : OutcomeAnswer → SaidOutcome
-said_outcome (NotShown number) = refused number
-said_outcome (Shown outcome) = shown outcome
+-- what each case of an answer of the outcome call stands for: an `Err` has the number of a refusal
+abbrev pub said_outcome : Result Outcome ℕ → SaidOutcome
+said_outcome (Err number) = refused number
+said_outcome (Ok outcome) = shown outcome
 
 -- of a search: a refusal by its number, that the thread is not receiving, or the sender that it settles on, or nobody, and how many places it read
 pub data SaidSearch : Type 0 where

@@ -13,6 +13,7 @@ pub struct Flags {
 }
 
 // A send part: to whom, how many of the eight words, and a time code. Where it is not present the rest is unused.
+// Kept, no Option: a part that is not present has fields too, which `operation_bytes` writes and `lawful_record` refuses.
 #[derive(Clone, Copy, PartialEq, Eq)]
 pub struct SendPart {
     pub present: bool,
@@ -23,6 +24,7 @@ pub struct SendPart {
 }
 
 // How long a receive waits, by its time code, and for whom; an open receive does not use the partner.
+// Kept for an open receive too: `operation_bytes` writes its partner, and `lawful_record` refuses one that is not 0.
 #[derive(Clone, Copy, PartialEq, Eq)]
 pub struct Wait {
     pub time: u8,
@@ -53,6 +55,7 @@ pub enum EntryPoint {
 }
 
 // The senders that wait at a thread: the first len of items, the earliest first.
+// Kept, no Vec: memory is fixed, and a table whose len is above 32 is one that `not_well_formed` refuses.
 #[derive(Clone, Copy, PartialEq, Eq)]
 pub struct Queue {
     pub items: [u8; 32],
@@ -60,6 +63,7 @@ pub struct Queue {
 }
 
 // How a thread's latest operation stands; also one record of a report.
+// Kept, a code by its number: a table with any other is one that `not_well_formed` refuses (`is_code`).
 #[derive(Clone, Copy, PartialEq, Eq)]
 pub struct Outcome {
     pub code: i32,
@@ -69,6 +73,7 @@ pub struct Outcome {
 
 // A thread. left is 65535 for never, owner 255 for none. Two fields are not in document 01's list:
 // copied, how many words the running copy has delivered, and waking, the sender whose lock wake and unlock hold.
+// Kept, a phase by its number, and 65535 and 255 for none: `not_well_formed` refuses a table with any other phase or owner.
 #[derive(Clone, Copy, PartialEq, Eq)]
 pub struct Thread {
     pub flags: Flags,
@@ -98,6 +103,7 @@ pub struct Rule {
 }
 
 // Who may send to whom: the first len of rows; every pair may where there are none. A len above 64 stands for more rows than there is room for.
+// Kept, no Vec: memory is fixed, and `misfit` answers TooMany of such a len.
 #[derive(Clone, Copy, PartialEq, Eq)]
 pub struct Rules {
     pub rows: [Rule; 64],
@@ -120,6 +126,7 @@ pub struct Pair {
 }
 
 // How rules fit a table: each pair falls in one row exactly; or there are too many rows, or a pair falls in none, or in several.
+// Kept, no Result: `misfit` answers it whole, and `load_misfit` tells it of a loading that is accepted too.
 #[derive(Clone, Copy, PartialEq, Eq)]
 pub enum Misfit {
     Fits,
@@ -129,6 +136,7 @@ pub enum Misfit {
 }
 
 // What every call but outcome answers: making a table, begin, step, cancel, tick, report, reading and writing a record.
+// Kept, a refusal by its number: `refusal` gives the numbers of the papers, and `said` tells them.
 #[derive(Clone, Copy, PartialEq, Eq)]
 pub enum Answer {
     Refused(u8),
@@ -143,6 +151,7 @@ pub enum Answer {
 }
 
 // An answer and the table after the call.
+// Kept, no Result: `Promise` settles the table of a refused call too, which is handed back.
 #[derive(Clone, Copy, PartialEq, Eq)]
 pub struct Returned {
     pub answer: Answer,
@@ -150,6 +159,7 @@ pub struct Returned {
 }
 
 // What loading rules returns: an answer, the pair by which they do not fit, and the table after the call.
+// Kept, no Result: `Promise` settles the table of a refused call too, and `load_misfit` the pair of an accepted one.
 #[derive(Clone, Copy, PartialEq, Eq)]
 pub struct Loaded {
     pub answer: Answer,
@@ -157,14 +167,8 @@ pub struct Loaded {
     pub table: Table,
 }
 
-// What the outcome call answers; the words are handed back as a slice of the store.
-#[derive(Clone, Copy, PartialEq, Eq)]
-pub enum OutcomeAnswer {
-    Refused(u8),
-    Shown(Outcome),
-}
-
 // One record of a schedule: kind 0 table, 1 begin, 2 step, 3 cancel, 4 tick, 5 begin with a set. Only a begin uses op; thread is N for a table and 0 for a tick.
+// Kept, a kind by its number: a record of any other is one that `unwritable` refuses.
 #[derive(Clone, Copy, PartialEq, Eq)]
 pub struct Record {
     pub kind: u8,
@@ -173,6 +177,7 @@ pub struct Record {
 }
 
 // What reading one record answers; refused, the item is all zero.
+// Kept, no Result: `DecodePromise` settles the item of a refused record too.
 #[derive(Clone, Copy, PartialEq, Eq)]
 pub struct Decoded {
     pub answer: Answer,

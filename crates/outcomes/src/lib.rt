@@ -7,41 +7,41 @@ ghost use Rattle.model.specs.Answers.{said_outcome};
 ghost use Rattle.model.specs.declared.Table.{Table};
 ghost use Rattle.model.specs.Promise.{state, outcome_answer, outcome_words, outcome_place};
 
-use model::{OutcomeAnswer, Table};
+use model::{Outcome, Table};
 
 // What the outcome call returns: its answer, and the words, as a slice of the caller's store.
 #[derive(Clone, Copy)]
 pub struct OutcomeReturned<'a> {
-    pub answer: OutcomeAnswer,
+    pub answer: Result<Outcome, u8>,
     pub words: &'a [u32],
 }
 
 // What the outcome call answers: code, source and count of a thread.
-pub fn outcome_answer(table: Table, thread: u8, store: &[u32]) -> OutcomeAnswer
+pub fn outcome_answer(table: Table, thread: u8, store: &[u32]) -> Result<Outcome, u8>
     ensures { said_outcome result ≡ outcome_answer (state table store.now) thread }
 {
     let first = refusals::table_refusal(table);
     if first != 0 {
-        return OutcomeAnswer::Refused(first);
+        return Err(first);
     }
     let second = refusals::argument_refusal(table.n, thread, store.len());
     if second != 0 {
-        return OutcomeAnswer::Refused(second);
+        return Err(second);
     }
     let i = thread as usize;
     let own = table.threads[i];
     let shown = own.outcome;
-    OutcomeAnswer::Shown(shown)
+    Ok(shown)
 }
 
 // The words that go with an answer, as a slice of the caller's store; refused, an empty one at its front.
-fn answered_words<'a>(answer: OutcomeAnswer, thread: u8, store: &'a [u32]) -> &'a [u32]
+fn answered_words<'a>(answer: Result<Outcome, u8>, thread: u8, store: &'a [u32]) -> &'a [u32]
     ensures words { (t : Table) → said_outcome answer ≡ outcome_answer (state t store.now) thread → result.now ≡ outcome_words (state t store.now) thread }
     ensures place { (t : Table) → said_outcome answer ≡ outcome_answer (state t store.now) thread → (result.ref_ptr.0 ≡ store.entry.ref_ptr.0) × (result.ref_ptr.1 ≡ store.entry.ref_ptr.1 + 4 * outcome_place (state t store.now) thread) }
 {
     match answer {
-        OutcomeAnswer::Refused(_) => words::first_words(store, 0, 0),
-        OutcomeAnswer::Shown(outcome) => words::first_words(store, thread, outcome.count),
+        Err(_) => words::first_words(store, 0, 0),
+        Ok(outcome) => words::first_words(store, thread, outcome.count),
     }
 }
 

@@ -1,6 +1,5 @@
 // What changed of one thread, a few words for each change: phase, mark, lock, queue, ticks left, outcome, words.
 use crate::names::{put_code_name, put_phase_name};
-use comparing::{same_outcome, same_queue};
 use model::{Outcome, Queue, Thread};
 use text::{put_byte, put_number, put_text, put_words};
 use threads::{NEVER, NOBODY};
@@ -72,7 +71,7 @@ fn tell_lock(out: &mut [u8], told: Told, x: u8, before: u8, after: u8) -> Told {
 
 // Who waits now.
 fn tell_queue(out: &mut [u8], told: Told, x: u8, before: Queue, after: Queue) -> Told {
-    if same_queue(before, after) {
+    if before == after {
         return told;
     }
     let lead = put_lead(out, told, x);
@@ -121,7 +120,7 @@ fn tell_outcome(
     after: Outcome,
     words: &[u32],
 ) -> Told {
-    if same_outcome(before, after) {
+    if before == after {
         return told;
     }
     let lead = put_lead(out, told, x);

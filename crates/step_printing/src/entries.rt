@@ -1,6 +1,6 @@
 // The logs of two recorders of one run, as lines of the console: at each rendezvous an entry of the sends, as it was begun, and one of the receives, as its outcome tells.
 use crate::lines::print_line;
-use model::{Answer, OutcomeAnswer, Record, SendPart, Table};
+use model::{Answer, Record, SendPart, Table};
 use std::io;
 use std::io::Write;
 use text::{SPACE, put_byte, put_number, put_text, put_words};
@@ -34,7 +34,7 @@ fn print_sent<W: Write>(output: &mut W, x: u8, send: SendPart) -> io::Result<()>
 // Prints what a thread received.
 fn print_received<W: Write>(output: &mut W, table: Table, x: u8, store: &[u32]) -> io::Result<()> {
     let answer = outcomes::outcome_answer(table, x, store);
-    if let OutcomeAnswer::Shown(outcome) = answer {
+    if let Ok(outcome) = answer {
         let words = outcomes::outcome_words(table, x, store);
         return print_entry(output, b"received ", x, outcome.source, words);
     }

@@ -5,7 +5,7 @@ ghost use Rattle.text.specs.Writing.{Written};
 ghost use Rattle.telling.specs.Texts.{sender_text, search_text};
 
 use crate::lines::{put_line, put_word};
-use model::{Answer, Outcome, OutcomeAnswer, Table};
+use model::{Answer, Outcome, Table};
 use queues::Found;
 use searches::SearchAnswer;
 use text::{put_byte, put_number, put_text, put_words};
@@ -23,8 +23,8 @@ pub fn outcome(table: Table, x: u8, store: &[u32], out: &mut [u8]) -> usize {
     let answer = outcomes::outcome_answer(table, x, store);
     let words = outcomes::outcome_words(table, x, store);
     match answer {
-        OutcomeAnswer::Refused(number) => put_line(out, 0, Answer::Refused(number)),
-        OutcomeAnswer::Shown(shown) => put_shown(out, x, shown, words),
+        Err(number) => put_line(out, 0, Answer::Refused(number)),
+        Ok(shown) => put_shown(out, x, shown, words),
     }
 }
 

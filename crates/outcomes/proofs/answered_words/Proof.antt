@@ -6,17 +6,17 @@ use Rattle.outcomes.proofs.answered_words.Statement.{statement}
 use Rattle.outcomes.proofs.answered_words.Tie as tie
 
 -- the answer is a refusal
-returns : tie.Need-returns-in-Refused
+returns : tie.Need-returns-in-Err
 returns c =
     let borrowed = c.first_words.ensures in
-    let is = ap said_outcome (sym c.before.in-Refused.is) in
+    let is = ap said_outcome (sym c.before.in-Err.is) in
     ((λ t e. borrowed.0 ∙ words-answered _ _ (is ∙ e)), (λ t e. (borrowed.1.0, borrowed.1.1 ∙ place-answered _ _ (is ∙ e) _)))
 
 -- it shows an outcome
-returns-2 : tie.Need-returns-in-Shown
+returns-2 : tie.Need-returns-in-Ok
 returns-2 c =
-    let borrowed = c.first_words-in-Shown.ensures in
-    let is = ap said_outcome (sym c.before.in-Shown.is) in
+    let borrowed = c.first_words-in-Ok.ensures in
+    let is = ap said_outcome (sym c.before.in-Ok.is) in
     ((λ t e. borrowed.0 ∙ words-answered _ _ (is ∙ e)), (λ t e. (borrowed.1.0, borrowed.1.1 ∙ place-answered _ _ (is ∙ e) _)))
 
 pub answered_words_spec : {M : Type 1} → statement M
