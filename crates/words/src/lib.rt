@@ -12,11 +12,7 @@ const WORDS: usize = 8;
 pub fn zero_words(words: &mut [u32])
     ensures { words.new ≡ replicate (length words.old) 0 }
 {
-    let mut i: usize = 0;
-    while i < words.len() {
-        words[i] = 0;
-        i += 1;
-    }
+    words.fill(0);
 }
 
 // Zero in thread x's eight words.
@@ -34,8 +30,8 @@ pub fn first_words<'a>(store: &'a [u32], x: u8, count: u8) -> &'a [u32]
     ensures words { result.now ≡ take count (words_at store.now x) }
     ensures place { (result.ref_ptr.0 ≡ store.entry.ref_ptr.0) × (result.ref_ptr.1 ≡ store.entry.ref_ptr.1 + 4 * min (8 * x) (length store.now)) }
 {
-    let start = numbers::lesser(WORDS * (x as usize), store.len());
-    let most = numbers::lesser(count as usize, WORDS);
-    let end = numbers::lesser(start + most, store.len());
+    let start = (WORDS * (x as usize)).min(store.len());
+    let most = (count as usize).min(WORDS);
+    let end = (start + most).min(store.len());
     &store[start..end]
 }
