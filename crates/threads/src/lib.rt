@@ -13,6 +13,7 @@ ghost use Rattle.model.specs.Calls.{ticked};
 use model::{Flags, Operation, Outcome, Receive, SendPart, Thread};
 
 // The codes of document 01; every failure is below zero.
+// Kept: numbers and no enum, since an `Outcome` of the definitions holds one (`codes` of model/specs/Codes).
 pub const DONE: i32 = 0;
 
 pub const RUNNING: i32 = 1;
@@ -30,6 +31,7 @@ pub const RECEIVE_CANCELLED: i32 = -5;
 pub const SEND_CANCELLED: i32 = -6;
 
 // The phases by their numbers.
+// Kept: numbers and no enum, since a `Thread` of the definitions holds one (`phase_number` of model/specs/Phases).
 pub const IDLE: u8 = 0;
 
 pub const LOCK: u8 = 1;
@@ -58,9 +60,11 @@ pub const SPARK_LIMIT: u8 = 3;
 pub const LAST_TIME_CODE: u8 = 15;
 
 // Source 255 means none; a lock's owner 255 is none too.
+// Kept: a number and no Option, since an `Outcome` and a `Thread` of the definitions hold it (`nobody` of model/specs/Codes).
 pub const NOBODY: u8 = 255;
 
 // left of a thread whose time never runs out.
+// Kept: a number and no Option, since a `Thread` of the definitions holds it (`never` of model/specs/Times).
 pub const NEVER: u16 = 65535;
 
 // The tick counts of the time codes 0 to 15.
@@ -69,6 +73,7 @@ const TICK_COUNTS: [u16; 16] = [
 ];
 
 // A code that stands for a failure.
+#[tactic(auto, unfolding(model::specs::Codes::is_failure))]
 pub fn is_failure(code: i32) -> bool
     ensures { result ≡ is_failure code }
 {
@@ -80,46 +85,36 @@ pub fn code_only(code: i32) -> Outcome
     ensures { result ≡ code_only code }
 {
     Outcome {
-        code: code,
+        code,
         source: NOBODY,
         count: 0,
     }
 }
 
 // The ticks that a time code stands for.
+#[tactic(auto, unfolding(model::specs::Times::tick_count))]
 pub fn tick_count(code: u8) -> u16
     ensures { result ≡ tick_count code }
 {
-    if LAST_TIME_CODE < code {
-        return 0;
-    }
-    let i = code as usize;
-    TICK_COUNTS[i]
+    TICK_COUNTS.get(code as usize).copied().unwrap_or(0)
 }
 
 // left after a tick.
+#[tactic(auto, unfolding(model::specs::Times::fall))]
 fn fall_by_one(left: u16) -> u16
     ensures { result ≡ fall left }
 {
     if left == NEVER {
         return left;
     }
-    if left == 0 {
-        return left;
-    }
-    left - 1
+    left.saturating_sub(1)
 }
 
 // A receive part is there.
 pub fn has_receive(receive: Receive) -> bool
     ensures { result ≡ has_receive receive }
 {
-    match receive {
-        Receive::Absent => false,
-        Receive::Open(_) => true,
-        Receive::Closed(_) => true,
-        Receive::OneOf(_, _) => true,
-    }
+    !matches!(receive, Receive::Absent)
 }
 
 // The time code of a receive part.
@@ -128,8 +123,7 @@ pub fn receive_time(receive: Receive) -> u8
 {
     match receive {
         Receive::Absent => 0,
-        Receive::Open(w) => w.time,
-        Receive::Closed(w) => w.time,
+        Receive::Open(w) | Receive::Closed(w) => w.time,
         Receive::OneOf(time, _) => time,
     }
 }
@@ -138,6 +132,7 @@ pub fn receive_time(receive: Receive) -> u8
 const SET_BITS: u8 = 32;
 
 // Thread s is a member of a set.
+#[tactic(auto, using(crate::proofs::Sets::sets), unfolding(model::specs::Operations::member))]
 pub fn is_member(set: u32, s: u8) -> bool
     ensures { result ≡ member set s }
 {
@@ -148,6 +143,7 @@ pub fn is_member(set: u32, s: u8) -> bool
 }
 
 // A set has a member from n on.
+#[tactic(auto, using(crate::proofs::Sets::sets))]
 fn has_beyond(set: u32, n: u8) -> bool
     ensures { result ≡ leb (2 ^ n) set }
 {
@@ -161,45 +157,35 @@ fn has_beyond(set: u32, n: u8) -> bool
 pub fn accepts_from(receive: Receive, s: u8) -> bool
     ensures { result ≡ accepts receive s }
 {
-    match receive {
-        Receive::Absent => false,
-        Receive::Open(_) => true,
-        Receive::Closed(w) => w.partner == s,
-        Receive::OneOf(_, set) => is_member(set, s),
-    }
+    is_open(receive) | closed_on(receive, s)
 }
 
 // A receive part that is open.
 pub fn is_open(receive: Receive) -> bool
     ensures { result ≡ open_part receive }
 {
-    match receive {
-        Receive::Absent => false,
-        Receive::Open(_) => true,
-        Receive::Closed(_) => false,
-        Receive::OneOf(_, _) => false,
-    }
+    matches!(receive, Receive::Open(_))
 }
 
 // A receive part that is closed on s.
+#[tactic(auto, using(crate::proofs::Sets::sets), unfolding(model::specs::Operations::closed_on))]
 pub fn closed_on(receive: Receive, s: u8) -> bool
     ensures { result ≡ closed_on receive s }
 {
     match receive {
-        Receive::Absent => false,
-        Receive::Open(_) => false,
+        Receive::Absent | Receive::Open(_) => false,
         Receive::Closed(w) => w.partner == s,
         Receive::OneOf(_, set) => is_member(set, s),
     }
 }
 
 // A receive part that is closed on a thread that a table of n has not.
+#[tactic(auto, using(crate::proofs::Sets::sets), unfolding(model::specs::Operations::closed_beyond))]
 pub fn closed_beyond(n: u8, receive: Receive) -> bool
     ensures { result ≡ closed_beyond n receive }
 {
     match receive {
-        Receive::Absent => false,
-        Receive::Open(_) => false,
+        Receive::Absent | Receive::Open(_) => false,
         Receive::Closed(w) => n <= w.partner,
         Receive::OneOf(_, set) => has_beyond(set, n),
     }
@@ -209,34 +195,23 @@ pub fn closed_beyond(n: u8, receive: Receive) -> bool
 pub fn names_set(receive: Receive) -> bool
     ensures { result ≡ names_set receive }
 {
-    match receive {
-        Receive::Absent => false,
-        Receive::Open(_) => false,
-        Receive::Closed(_) => false,
-        Receive::OneOf(_, _) => true,
-    }
+    matches!(receive, Receive::OneOf(_, _))
 }
 
 // A receive part that is closed on nobody.
 pub fn is_empty(receive: Receive) -> bool
     ensures { result ≡ empty_set receive }
 {
-    match receive {
-        Receive::Absent => false,
-        Receive::Open(_) => false,
-        Receive::Closed(_) => false,
-        Receive::OneOf(_, set) => set == 0,
-    }
+    matches!(receive, Receive::OneOf(_, 0))
 }
 
 // Document 01's "ready" for s.
+#[tactic(auto, unfolding(model::specs::Queues::ready, model::specs::Lists::all_of))]
 pub fn is_ready(h: Thread, s: u8) -> bool
     ensures { result ≡ ready h s }
 {
     let flags = h.flags;
-    let op = h.op;
-    let receive = op.receive;
-    flags.ipc & flags.receiving & !flags.send & !flags.mark & accepts_from(receive, s)
+    flags.ipc & flags.receiving & !flags.send & !flags.mark & accepts_from(h.op.receive, s)
 }
 
 // No flag.
@@ -256,21 +231,22 @@ pub fn no_flags() -> Flags
 pub fn end_with(h: Thread, outcome: Outcome) -> Thread
     ensures { result ≡ ended outcome h }
 {
-    let mut next = h;
-    next.flags = no_flags();
-    next.outcome = outcome;
-    next
+    Thread {
+        flags: no_flags(),
+        outcome,
+        ..h
+    }
 }
 
 // An ending that is not a completed receive: all flags clear, the code, source 255 and count 0.
 pub fn end_with_code(h: Thread, code: i32) -> Thread
     ensures { result ≡ ended (code_only code) h }
 {
-    let outcome = code_only(code);
-    end_with(h, outcome)
+    end_with(h, code_only(code))
 }
 
 // No operation.
+#[tactic(auto, unfolding(model::specs::Threads::no_operation))]
 pub fn no_operation() -> Operation
     ensures { result ≡ no_operation }
 {
@@ -282,7 +258,7 @@ pub fn no_operation() -> Operation
         words: [0; 8],
     };
     Operation {
-        send: send,
+        send,
         receive: Receive::Absent,
     }
 }
@@ -291,44 +267,41 @@ pub fn no_operation() -> Operation
 pub fn drop_receive(h: Thread) -> Thread
     ensures { result ≡ without_receive h }
 {
-    let op = h.op;
-    let send = op.send;
-    let bare = Operation {
-        send: send,
+    let op = Operation {
         receive: Receive::Absent,
+        ..h.op
     };
-    let mut next = h;
-    next.op = bare;
-    next
+    Thread { op, ..h }
 }
 
 // The mark set.
 pub fn set_mark(h: Thread) -> Thread
     ensures { result ≡ marked h }
 {
-    let mut next = h;
-    next.flags.mark = true;
-    next
+    let flags = Flags {
+        mark: true,
+        ..h.flags
+    };
+    Thread { flags, ..h }
 }
 
 // A cancel of one thread: the mark set if an operation runs.
 pub fn mark_running(h: Thread) -> Thread
     ensures { result ≡ cond h.flags.ipc (marked h) h }
 {
-    if h.flags.ipc {
-        return set_mark(h);
-    }
-    h
+    if h.flags.ipc { set_mark(h) } else { h }
 }
 
 // A tick of one thread.
+#[tactic(auto, unfolding(model::specs::Calls::ticked))]
 pub fn tick_thread(h: Thread) -> Thread
     ensures { result ≡ ticked h }
 {
     if !h.flags.ipc {
         return h;
     }
-    let mut next = h;
-    next.left = fall_by_one(h.left);
-    next
+    Thread {
+        left: fall_by_one(h.left),
+        ..h
+    }
 }
