@@ -1,63 +1,26 @@
--- Laws of a search that goes up a list, of reading a list's first places, and of a list with one place gone.
-use mathlib.Core.Path.{◌≡◌, refl, ap, sym, ◌∙◌}
-use mathlib.Core.Bool.{Bool, true, false, cond}
-use mathlib.Core.Option
-use mathlib.Core.List.{List, [], ◌∷◌, ◌++◌, append-nil}
-use Prim.Native.Nat.{ℕ, zero, suc, ◌+◌, ◌-◌, ◌≤◌, ◌<◌}
-use native.Mathlib.Omega.{arith}
-use lib.ListN.{length, get_or, get_elem?, set, take, drop, take-append-drop}
-use lib.Seq.{length-take-le, get_or-take, drop-cons, slice_empty}
-use lib.Dec.{eqb}
+-- Laws of the first place at which a test holds, of reading a list's first places, and of a list with one place gone.
+use Rattle.std.proofs.Common.{◌≡◌, refl, ap, sym, ◌∙◌, Bool, false, not, List, [], ◌∷◌, ◌++◌, ℕ, zero, suc, ◌+◌, ◌-◌, ◌≤◌, ◌<◌, length, get_or, take, drop, eqb, ltb, unwrap_or, add-one, arith}
+use Rattle.std.specs.List.{position, position_or_len, copy_within}
+use Rattle.std.proofs.lemmas.List.{drop-take}
+use Rattle.std.proofs.lemmas.List.Recursion.{is_position_or_len}
+use Rattle.std.proofs.lemmas.List.Sums.{prefix_len-le-length}
+use Rattle.std.proofs.Math.ListN.{get_elem?}
+use Rattle.std.proofs.Math.Option
+use borrow.Author.Tests.{ltb-false}
 use Rattle.model.specs.Lists.{bit, occurs, without, place_where}
 use Rattle.model.proofs.Laws.{by}
 use Rattle.queues.specs.Places.{place_of, moved_up}
 
--- ---- a search that goes up a list
--- the search in the first n places of l for one at which f holds has passed i places
-pub record Searching (f : ℕ → Bool) (l : List ℕ) (n i : ℕ) : Type 0 where
-  pub long : n ≤ length l
-  pub inside : i ≤ n
-  pub passed : i ≤ place_where f (take n l)
-
-module _ (f : ℕ → Bool) where
-  -- a search stops in the list or at its end
-  place_inside : (q : List ℕ) → place_where f q ≤ length q
-  unfolding place_where
-  place_inside [] = omega arith
-  place_inside (a ∷ q) = by (f a) (λ e. rw e (omega arith)) (λ e. rw e (omega (arith, place_inside q)))
-
-  -- a search that has passed i places goes on from there
-  place-from : (q : List ℕ) (i : ℕ) → i ≤ place_where f q → place_where f q ≡ i + place_where f (drop i q)
-  unfolding place_where
-  place-from q zero h = omega arith
-  place-from [] (suc i) h = absurd (omega arith)
-  place-from (a ∷ q) (suc i) h = by (f a)
-      (λ e. let none_passed : suc i ≤ 0 = rw e at h in absurd (omega arith))
-      (λ e. let passed : suc i ≤ suc (place_where f q) = rw e at h in rw e (omega (arith, place-from q i (omega arith))))
-
-  -- a search starts at place 0
-  pub search_starts : (l : List ℕ) (n m : ℕ) → length l ≡ m → n ≤ m → Searching f l n 0
-  search_starts l n m long h = record { long = omega arith; inside = omega arith; passed = omega arith }
-
-  module _ {l : List ℕ} {n i : ℕ} (reached : Searching f l n i) where
-    -- whether it stops at place i, f at what stands there decides
-    place_at : i < n → place_where f (take n l) ≡ i + cond (f (get_or l i 0)) 0 (suc (place_where f (drop (suc i) (take n l))))
-    unfolding place_where
-    place_at h =
-        let h' : i < length (take n l) = rw (length-take-le n l reached.long) h in
-        rw (← get_or-take n l i 0 h) (place-from (take n l) i reached.passed ∙ ap (λ (q : List ℕ). i + place_where f q) (drop-cons (take n l) i 0 h'))
-
-    -- it stops at place i, where f holds there
-    pub stops-here : i < n → f (get_or l i 0) ≡ true → i ≡ place_where f (take n l)
-    stops-here h e = let k = rw e at (place_at h) in omega arith
-
-    -- it passes place i, where f fails there
-    pub goes_on : i < n → f (get_or l i 0) ≡ false → Searching f l n (i + 1)
-    goes_on h e = let k = rw e at (place_at h) in record { long = reached.long; inside = omega arith; passed = omega arith }
-
-    -- it stops at n, where no place is left
-    pub stops-at-end : n ≤ i → n ≡ place_where f (take n l)
-    stops-at-end h = let k : length (take n l) ≡ n = length-take-le n l reached.long in omega (arith, place_inside (take n l))
+-- ---- the first place at which a test holds
+-- it is what `position` finds, or the list's length
+pub place_where_found : (f : ℕ → Bool) (q : List ℕ) → place_where f q ≡ unwrap_or (position f q) (length q)
+unfolding place_where
+place_where_found f q =
+    let e : place_where f q ≡ position_or_len f q = is_position_or_len (place_where f) f refl (λ a r. by (f a) (λ h. rw h refl) (λ h. rw h (omega arith))) q in
+    let inside : position_or_len f q ≤ length q = prefix_len-le-length (λ a. not (f a)) q in
+    by (ltb (position_or_len f q) (length q))
+    (λ h. rw h e)
+    (λ h. rw h (let out = ltb-false (position_or_len f q) (length q) h in omega (arith, e)))
 
 -- ---- a place among the first n of a list, read
 -- one of them is read there
@@ -75,24 +38,16 @@ read_past (a ∷ l) (suc n) zero d h = absurd (omega arith)
 read_past (a ∷ l) (suc n) (suc i) d h = read_past l n i d (omega arith)
 
 -- ---- a list with one place gone
--- before the first turn nothing is moved
-pub none-moved : (p : ℕ) (l : List ℕ) → l ≡ moved_up p p l
+-- what a copy of the places behind p to p leaves
+pub copied_moved : (p n : ℕ) (l : List ℕ) → p < n → copy_within l (p + 1) n p ≡ moved_up p (n - 1) l
 unfolding moved_up
-none-moved p l = sym (rw (slice_empty (suc p) l, append-nil, take-append-drop) refl)
-
--- one turn of moving up a list from its start: place i gets what stands after it
-move_first : (a : ℕ) (l : List ℕ) (i : ℕ) → i < length l → set (take i l ++ drop i (a ∷ l)) i (get_or (take i l ++ drop i (a ∷ l)) (suc i) 0) ≡ take (suc i) l ++ drop i l
-move_first a [] i h = absurd (omega arith)
-move_first a (b ∷ l) zero h = refl
-move_first a (b ∷ l) (suc i) h = ap (λ (q : List ℕ). b ∷ q) (move_first b l i (omega arith))
-
--- one turn of moving up a list from place p: place i gets what stands after it
-pub one-more-moved : (p i : ℕ) (l : List ℕ) → p ≤ i → suc i < length l → set (moved_up p i l) i (get_or (moved_up p i l) (suc i) 0) ≡ moved_up p (suc i) l
-unfolding moved_up
-one-more-moved p i [] h long = absurd (omega arith)
-one-more-moved zero i (a ∷ l) h long = move_first a l i (omega arith)
-one-more-moved (suc p) zero (a ∷ l) h long = absurd (omega arith)
-one-more-moved (suc p) (suc i) (a ∷ l) h long = ap (λ (q : List ℕ). a ∷ q) (one-more-moved p i l (omega arith) (omega arith))
+copied_moved p n l h =
+    let k = n - (p + 1) in
+    let last : suc (n - 1) ≡ suc p + k = omega arith in
+    let end : p + k ≡ n - 1 = omega arith in
+    let moved : drop (suc p) (take (suc (n - 1)) l) ≡ take k (drop (p + 1) l) = ap (λ (m : ℕ). drop (suc p) (take m l)) last ∙ drop-take (suc p) k l ∙ ap (λ (m : ℕ). take k (drop m l)) (sym (add-one p)) in
+    let behind : drop (p + k) l ≡ drop (n - 1) l = ap (λ (m : ℕ). drop m l) end in
+    cc
 
 -- a number that stands among the first n places has a place there
 pub place-there : (s n : ℕ) (l : List ℕ) → 1 ≤ occurs s (take n l) → place_of s (take n l) < n

@@ -11,27 +11,24 @@ ghost use Rattle.queues.specs.Places.{place_of, gap_closed};
 
 use model::{Queue, Thread};
 
+// The waiting senders of a queue, the earliest first.
+fn waiting(queue: &Queue) -> &[u8]
+    requires { queue.now.len ≤ 32 }
+    ensures { result.now ≡ take queue.now.len queue.now.items }
+{
+    &queue.items[..queue.len as usize]
+}
+
 // The place in the queue where the search stops: at the first acceptable sender, or past the last.
 fn search(h: Thread) -> usize
     requires { h.queue.len ≤ 32 }
     ensures { result ≡ search_place h }
 {
-    let queue = h.queue;
-    let items = queue.items;
-    let n = queue.len as usize;
-    let op = h.op;
-    let receive = op.receive;
-    let mut i: usize = 0;
-    let place = loop {
-        if n <= i {
-            break n;
-        }
-        if threads::accepts_from(receive, items[i]) {
-            break i;
-        }
-        i += 1;
-    };
-    place
+    let senders = waiting(&h.queue);
+    senders
+        .iter()
+        .position(|s| threads::accepts_from(h.op.receive, *s))
+        .unwrap_or(senders.len())
 }
 
 // What a search found: the sender that it settled on, or nobody, and how many queue places it read.
@@ -65,17 +62,15 @@ pub fn first_acceptable(h: Thread) -> Found
 }
 
 // s at the end of the queue.
+#[tactic(auto, unfolding(model::specs::Queues::joined))]
 pub fn join(h: Thread, s: u8) -> Thread
     requires { h.queue.len < 32 }
     ensures { result ≡ joined s h }
 {
     let mut queue = h.queue;
-    let n = queue.len as usize;
-    queue.items[n] = s;
+    queue.items[queue.len as usize] = s;
     queue.len += 1;
-    let mut next = h;
-    next.queue = queue;
-    next
+    Thread { queue, ..h }
 }
 
 // The first place of s in a queue, or past the last.
@@ -83,38 +78,25 @@ fn place_of(q: Queue, s: u8) -> usize
     requires { q.len ≤ 32 }
     ensures { result ≡ place_of s (take q.len q.items) }
 {
-    let items = q.items;
-    let n = q.len as usize;
-    let mut i: usize = 0;
-    let place = loop {
-        if n <= i {
-            break n;
-        }
-        if items[i] == s {
-            break i;
-        }
-        i += 1;
-    };
-    place
+    let senders = waiting(&q);
+    senders
+        .iter()
+        .position(|sender| *sender == s)
+        .unwrap_or(senders.len())
 }
 
 // One place of a queue gone, those after it moved up by one.
+#[tactic(auto, using(crate::proofs::Laws::copied_moved), unfolding(crate::specs::Places::gap_closed))]
 fn close_gap(q: Queue, place: usize) -> Queue
     requires place_lt_len { place < q.len }
     requires len_bound { q.len ≤ 32 }
     ensures { result ≡ gap_closed place q }
 {
     let mut items = q.items;
-    let len = q.len - 1;
-    let last = len as usize;
-    let mut i = place;
-    while i < last {
-        items[i] = items[i + 1];
-        i += 1;
-    }
+    items.copy_within(place + 1..q.len as usize, place);
     Queue {
-        items: items,
-        len: len,
+        items,
+        len: q.len - 1,
     }
 }
 
@@ -124,10 +106,10 @@ pub fn depart(h: Thread, s: u8) -> Thread
     requires bound { 1 ≤ occurs s (senders h) }
     ensures { result ≡ departed s h }
 {
-    let queue = h.queue;
-    let place = place_of(queue, s);
-    let shorter = close_gap(queue, place);
-    let mut next = h;
-    next.queue = shorter;
-    next
+    let place = place_of(h.queue, s);
+    let shorter = close_gap(h.queue, place);
+    Thread {
+        queue: shorter,
+        ..h
+    }
 }
