@@ -1,7 +1,19 @@
 -- Ranks in two columns of numbers, the senders and the targets of a log's entries.
-use Rattle.std.specs.Prelude.{Bool, ◌&&◌, List, ℕ, length, get_or, eqb}
+use Rattle.std.specs.Prelude.{Bool, cond, ◌&&◌, List, map, ℕ, length, get_or, eqb, ltb, Option, Some, None}
+use Rattle.model.specs.declared.Pair.{Pair}
 use Rattle.model.specs.Lists.{first_below}
 use Rattle.logs.specs.Comparison.{count_below}
+
+-- the senders of some pairs, and their targets
+abbrev pub senders_of : List Pair → List ℕ
+senders_of pairs = map (λ (p : Pair). p.sender) pairs
+
+abbrev pub targets_of : List Pair → List ℕ
+targets_of pairs = map (λ (p : Pair). p.target) pairs
+
+-- place k of n; of a place past them, none
+abbrev pub place_within : ℕ → ℕ → Option ℕ
+place_within n k = cond (ltb k n) (Some k) None
 
 -- place k of the columns is of sender s and target t
 unfoldable pub is_of : List ℕ → List ℕ → ℕ → ℕ → ℕ → Bool
