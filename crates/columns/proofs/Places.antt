@@ -1,6 +1,7 @@
 -- Looking through columns, place by place: how many places are of a sender and a target, and the one of a rank.
 use Rattle.std.proofs.Common.{◌≡◌, ◌≢◌, refl, sym, ap, subst, ◌∙◌, Bool, true, false, ◌&&◌, cond, List, [], ◌∷◌, ◌++◌, ℕ, zero, suc, ◌+◌, ◌≤◌, ◌<◌, length, get_or, take, eqb, ltb, Some, None, add-one, arith}
 use Rattle.std.specs.List.{filter}
+use Rattle.std.specs.Option.{is_some}
 use Rattle.std.proofs.lemmas.List.{append-nil, length-map, length_push, get_or-map}
 use Rattle.std.proofs.lemmas.List.Elements.{filter_more}
 use borrow.Author.Tests.{eq-eqb, ne_eqb, lt-ltb, le-ltb, ltb-true, ltb-false}
@@ -105,6 +106,16 @@ module _ (n k : ℕ) where
   found_within j e = by (ltb k n)
       (λ h. let same : Some j ≡ Some k = rw h at e in (cc, ltb-true k n h))
       (λ h. let none : Some j ≡ None = rw h at e in absurd (cc))
+
+  pub some_within : is_some (place_within n k) ≡ true → k < n
+  some_within e = by (ltb k n)
+      (λ h. ltb-true k n h)
+      (λ h. let clash : false ≡ true = rw h at e in absurd (cc))
+
+  pub nothing_within : is_some (place_within n k) ≡ false → n ≤ k
+  nothing_within e = by (ltb k n)
+      (λ h. let clash : true ≡ false = rw h at e in absurd (cc))
+      (λ h. ltb-false k n h)
 
   pub none_within : None ≡ place_within n k → n ≤ k
   none_within e = by (ltb k n)

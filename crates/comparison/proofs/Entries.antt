@@ -1,38 +1,45 @@
 -- The entries of a log, read from its array.
-use mathlib.Core.Path.{◌≡◌, refl, sym, ap, ◌∙◌}
+use mathlib.Core.Path.{◌≡◌, refl, sym, ap, subst, ◌∙◌}
 use mathlib.Core.Bool.{Bool, true, false, not, ◌||◌}
-use mathlib.Core.List.{List, [], ◌∷◌}
-use Prim.Native.Nat.{ℕ, ◌+◌, ◌-◌, ◌≤◌, ◌<◌}
+use mathlib.Core.List.{List, [], ◌∷◌, map}
+use Rattle.std.specs.Bool.{MatchBool}
+use Rattle.std.specs.List.{AllWithin, HoldsAt}
+use Rattle.std.proofs.lemmas.List.{length-map, length-take, take-map, get_or-map}
+use Rattle.model.specs.declared.Pair.{Pair}
+use Rattle.columns.specs.Ranks.{senders_of, targets_of}
+use Rattle.columns.proofs.Places.{no_pair}
+use Prim.Native.Nat.{ℕ, ◌≤◌, ◌<◌}
 use native.Mathlib.Omega.{arith}
-use lib.ListN.{length, get_or, set, take, length-take, length-map, get_or-map}
-use lib.Seq.{get_or-take, get_or-set_same, get_or-set_other}
+use lib.ListN.{length, get_or, take}
+use lib.Seq.{get_or-take}
 use lib.Dec.{leb, ltb}
 use borrow.Author.Tests.{le-leb, leb-true, lt-ltb, le-ltb, lt-leb, ltb-false, not-true, not-false}
-use mir.Val.{Val}
-use denote.Shadow.{shadow}
 use Rattle.model.specs.Lists.{all_below}
 use Rattle.model.specs.Operations.{word_limit}
-use Rattle.model.proofs.Laws.{same?, all-below-read, all-below-made}
+use Rattle.model.proofs.Laws.{all-below-read, all-below-made}
 use Rattle.model.specs.Refusals.{first_refusal, unless}
 use Rattle.laws.proofs.Lists.{or_left, or_right}
 use Rattle.laws.proofs.Below.{all-below-fails}
 use Rattle.laws.proofs.Rows.{first-none, first-here, first-later}
 use Rattle.logs.specs.declared.LogEntry.{LogEntry}
 use Rattle.logs.specs.declared.Log.{Log}
-use Rattle.logs.specs.contracts.LogEntry.{the_row as entryRow}
-use Rattle.logs.specs.contracts.Log.{the_row}
 use Rattle.logs.specs.Comparison.{Logged, logged, entries_of, entry_at, refused, compare, log_room, bad_log, compare_refusal, compare_answer}
-use Rattle.comparison.specs.Entries.{Columns, no_entry, Good}
+use Rattle.comparison.specs.Entries.{Columns, no_entry, pair_of, Good}
 
 -- as many as the log says
 pub entries-many : (log : Log) → length log.entries ≡ 512 → log.len ≤ log_room → length (entries_of log) ≡ log.len
 unfolding entries_of
 entries-many log whole few = length-map (take log.len log.entries) logged ∙ (let l = length-take log.len log.entries in omega (arith, l))
 
+-- and no more, whatever stands in its array
+pub entries_few : (log : Log) → length (entries_of log) ≤ log.len
+unfolding entries_of
+entries_few log = omega (arith, length-map (take log.len log.entries) logged, length-take log.len log.entries)
+
 -- each is what its place in the array says
 pub entry_read : (log : Log) (k : ℕ) → k < log.len → entry_at (entries_of log) k ≡ logged (get_or log.entries k no_entry)
 unfolding entries_of entry_at logged
-entry_read log k l = get_or-map logged (take log.len log.entries) k no_entry ∙ ap logged (get_or-take log.len log.entries k no_entry l)
+entry_read log k l = lib.ListN.get_or-map logged (take log.len log.entries) k no_entry ∙ ap logged (get_or-take log.len log.entries k no_entry l)
 
 -- ---- whether a log is refused
 -- more than 512 entries
@@ -40,30 +47,42 @@ pub too_long : (log : Log) → 512 < log.len → false ≡ not (bad_log log).whe
 unfolding bad_log
 too_long log l = rw (lt-ltb 512 log.len l) refl
 
-module _ (log : Log) (whole : length log.entries ≡ 512) (few : log.len ≤ log_room) where
+module _ (log : Log) (few : log.len ≤ log_room) where
   -- the test of one entry
   count_test : (i : ℕ) → i < length (entries_of log) → leb (entry_at (entries_of log) i).count word_limit ≡ leb (get_or log.entries i no_entry).count word_limit
   unfolding logged
-  count_test i l = ap (λ (e : Logged). leb e.count word_limit) (entry_read log i (omega (arith, entries-many log whole few)))
+  count_test i l = ap (λ (e : Logged). leb e.count word_limit) (entry_read log i (omega (arith, entries_few log)))
 
   -- an entry of more than 8 words
-  pub too_many : (i : ℕ) → i < log.len → 8 < (get_or log.entries i no_entry).count → false ≡ not (bad_log log).when
+  too_many : (i : ℕ) → i < length (entries_of log) → 8 < (get_or log.entries i no_entry).count → false ≡ not (bad_log log).when
   unfolding bad_log
   too_many i l many = rw (le-ltb 512 log.len few)
-      (ap (λ (b : Bool). not (not b)) (all-below-fails (length (entries_of log)) _ i (omega (arith, entries-many log whole few)) (count_test i (omega (arith, entries-many log whole few)) ∙ lt-leb _ _ many)))
+      (ap (λ (b : Bool). not (not b)) (all-below-fails (length (entries_of log)) _ i l (count_test i l ∙ lt-leb _ _ many)))
 
   -- none of either
-  pub not-bad : ((i : ℕ) → i < log.len → (get_or log.entries i no_entry).count ≤ word_limit) → true ≡ not (bad_log log).when
+  not-bad : ((i : ℕ) → i < length (entries_of log) → (get_or log.entries i no_entry).count ≤ word_limit) → true ≡ not (bad_log log).when
   unfolding bad_log
   not-bad small = rw (le-ltb 512 log.len few)
-      (ap (λ (b : Bool). not (not b)) (sym (all-below-made (length (entries_of log)) _ (λ i l. count_test i l ∙ le-leb _ _ (small i (omega (arith, entries-many log whole few)))))))
+      (ap (λ (b : Bool). not (not b)) (sym (all-below-made (length (entries_of log)) _ (λ i l. count_test i l ∙ le-leb _ _ (small i l)))))
+
+  -- which `all` finds
+  pub good_all : (r : Bool)
+      → MatchBool r (AllWithin (λ (e : LogEntry). e.count ≤ word_limit) (take log.len log.entries) 0 (length (take log.len log.entries)))
+      ((k : ℕ) × (k < length (take log.len log.entries)) × HoldsAt (λ (e : LogEntry). word_limit < e.count) (take log.len log.entries) k)
+      → r ≡ not (bad_log log).when
+  unfolding entries_of
+  good_all true h =
+      not-bad (λ i l. subst (λ (e : LogEntry). e.count ≤ word_limit) (get_or-take log.len log.entries i no_entry (omega (arith, entries_few log))) (h i no_entry (omega arith) (omega (arith, length-map (take log.len log.entries) logged))))
+  good_all false (k, l, h) =
+      let low : k < length (entries_of log) = omega (arith, length-map (take log.len log.entries) logged) in
+      too_many k low (subst (λ (e : LogEntry). word_limit < e.count) (get_or-take log.len log.entries k no_entry (omega (arith, entries_few log))) (h no_entry))
 
 -- so a log that is not refused is good
 pub good-read : (log : Log) → length log.entries ≡ 512 → not (bad_log log).when ≡ true → Good log
 unfolding bad_log
 good-read log whole e = record {
   few = few;
-  small = λ i l. leb-true _ _ (sym (count_test log whole few i (omega (arith, many))) ∙ all-below-read (length (entries_of log)) _ all i (omega (arith, many)));
+  small = λ i l. leb-true _ _ (sym (count_test log few i (omega (arith, many))) ∙ all-below-read (length (entries_of log)) _ all i (omega (arith, many)));
 }
   where
     passes : (ltb log_room log.len || not (all_below (length (entries_of log)) (λ i. leb (entry_at (entries_of log) i).count word_limit))) ≡ false
@@ -79,43 +98,35 @@ good-read log whole e = record {
     all = not-false _ (or_right (ltb log_room log.len) _ passes)
 
 -- ---- columns
--- those of the first i entries
-abbrev pub Filled : Log → ℕ → List ℕ → List ℕ → Type 0
-Filled log i senders targets = (k : ℕ) → k < i → (get_or senders k 0 ≡ (get_or log.entries k no_entry).sender) × (get_or targets k 0 ≡ (get_or log.entries k no_entry).target)
+-- the entries of a log, and what of them stands in its column
+module _ (log : Log) where
+  abbrev used : List LogEntry
+  used = take log.len log.entries
 
--- one more
-pub filled_more : (log : Log) (i : ℕ) (senders targets : List ℕ) → i < length senders → i < length targets → Filled log i senders targets
-    → Filled log (i + 1) (set senders i (get_or log.entries i no_entry).sender) (set targets i (get_or log.entries i no_entry).target)
-filled_more log i senders targets l h before k low = same? k i
-    (λ e. rw e (get_or-set_same senders i _ 0 l, get_or-set_same targets i _ 0 h))
-    (λ d. let (s, t) = before k (omega arith) in (get_or-set_other senders i k _ 0 d ∙ s, get_or-set_other targets i k _ 0 d ∙ t))
+  module _ (k : ℕ) (l : k < length used) where
+    sender_there : get_or (senders_of (map pair_of used)) k 0 ≡ (entry_at (map logged used) k).sender
+    unfolding logged entry_at
+    sender_there = get_or-map (λ (p : Pair). p.sender) (map pair_of used) k no_pair 0 (rw length-map l) ∙ ap (λ (p : Pair). p.sender) (get_or-map pair_of used k no_entry no_pair l)
+        ∙ sym (ap (λ (e : Logged). e.sender) (get_or-map logged used k no_entry _ l))
 
--- all of them
-pub filled-all : (log : Log) → length log.entries ≡ 512 → log.len ≤ log_room → (senders targets : List ℕ) → length senders ≡ log.len → length targets ≡ log.len
-    → Filled log log.len senders targets → Columns (entries_of log) senders targets
-unfolding logged
-filled-all log whole few senders targets s t all = record {
-  many = s ∙ sym many;
-  as_many = t ∙ sym many;
-  sender = λ k l. (all k (omega (arith, many))).0 ∙ sym (ap (λ (e : Logged). e.sender) (entry_read log k (omega (arith, many))));
-  target = λ k l. (all k (omega (arith, many))).1 ∙ sym (ap (λ (e : Logged). e.target) (entry_read log k (omega (arith, many))));
-}
-  where
-    many : length (entries_of log) ≡ log.len
-    many = entries-many log whole few
+    target_there : get_or (targets_of (map pair_of used)) k 0 ≡ (entry_at (map logged used) k).target
+    unfolding logged entry_at
+    target_there = get_or-map (λ (p : Pair). p.target) (map pair_of used) k no_pair 0 (rw length-map l) ∙ ap (λ (p : Pair). p.target) (get_or-map pair_of used k no_entry no_pair l)
+        ∙ sym (ap (λ (e : Logged). e.target) (get_or-map logged used k no_entry _ l))
 
--- ---- lengths by type; the projection goes by the place of the field in its struct
--- an array of entries has its 512 places
-pub entries-whole : (log : Log) (vs : List Val) → shadow (the_row.own_val log vs) → length log.entries ≡ 512
-entries-whole log vs g = g.1.1.0.1.0.1
+  -- they are its column
+  own_column : Columns (map logged used) (senders_of (map pair_of used)) (targets_of (map pair_of used))
+  own_column = record {
+    many = length-map (map pair_of used) (λ (p : Pair). p.sender) ∙ length-map used pair_of ∙ sym (length-map used logged);
+    as_many = length-map (map pair_of used) (λ (p : Pair). p.target) ∙ length-map used pair_of ∙ sym (length-map used logged);
+    sender = λ k l. sender_there k (rw length-map at l);
+    target = λ k l. target_there k (rw length-map at l);
+  }
 
--- an array of words its 8
-pub words-whole : (entry : LogEntry) (vs : List Val) → shadow (entryRow.own_val entry vs) → length entry.words ≡ 8
-words-whole entry vs g = g.1.1.1.1.1.0.1.0.1
-
--- room for a column of k
-pub column-room : (k : ℕ) (room : List ℕ) → k ≤ log_room → 512 ≡ length room → length (take (k - 0) room) ≡ k
-column-room k room few whole = omega (arith, length-take (k - 0) room)
+  -- as it is read from the whole array
+  pub column_read : (pairs : List Pair) → pairs ≡ map pair_of log.entries → Columns (entries_of log) (senders_of (take log.len pairs)) (targets_of (take log.len pairs))
+  unfolding entries_of
+  column_read pairs e = rw (e, take-map pair_of log.len log.entries) own_column
 
 -- ---- what is answered
 -- a bad log of sends

@@ -13,7 +13,7 @@ use Rattle.logs.specs.Comparison.{Logged, logged, entries_of, entry_at, same_mes
 use Rattle.laws.proofs.Below.{first-missing, first-is}
 use Rattle.columns.specs.Ranks.{mate_of}
 use Rattle.comparison.specs.Entries.{Columns, no_entry, Good}
-use Rattle.comparison.proofs.Entries.{entries-many, entry_read}
+use Rattle.comparison.proofs.Entries.{entries_few, entry_read}
 use Rattle.comparison.proofs.Found.{found_none, found_mate, unsent, was-sent}
 
 module _ (sends receives : Log) (senders targets sources receivers : List ℕ) (sent : Columns (entries_of sends) senders targets) (received : Columns (entries_of receives) sources receivers) where
@@ -23,14 +23,13 @@ module _ (sends receives : Log) (senders targets sources receivers : List ℕ) (
   send-alone i j low found past = found_none _ _ senders targets sources receivers sent received i (omega (arith, sent.many)) (omega (arith, received.many, found))
 
   -- it finds receive j
-  pub send-found : length sends.entries ≡ 512 → length receives.entries ≡ 512 → Good sends → Good receives
-      → (i j : ℕ) → i < length senders → j ≡ mate_of senders targets i sources receivers
+  pub send-found : (i j : ℕ) → i < length senders → j ≡ mate_of senders targets i sources receivers
       → j < length sources → send_differs (entries_of sends) (entries_of receives) i ≡ not (same_message (logged (get_or sends.entries i no_entry)) (logged (get_or receives.entries j no_entry)))
-  send-found whole all good fits i j low found there =
+  send-found i j low found there =
       found_mate _ _ senders targets sources receivers sent received i (omega (arith, sent.many)) (omega (arith, received.many, found))
       ∙ ap (λ (k : ℕ). not (same_message (entry_at (entries_of sends) i) (entry_at (entries_of receives) k))) (sym found)
-      ∙ ap (λ (e : Logged). not (same_message e (entry_at (entries_of receives) j))) (entry_read sends i (omega (arith, sent.many, entries-many sends whole good.few)))
-      ∙ ap (λ (e : Logged). not (same_message (logged (get_or sends.entries i no_entry)) e)) (entry_read receives j (omega (arith, received.many, entries-many receives all fits.few)))
+      ∙ ap (λ (e : Logged). not (same_message e (entry_at (entries_of receives) j))) (entry_read sends i (omega (arith, sent.many, entries_few sends)))
+      ∙ ap (λ (e : Logged). not (same_message (logged (get_or sends.entries i no_entry)) e)) (entry_read receives j (omega (arith, received.many, entries_few receives)))
 
 -- of tests below n: one that passes first is found, and none
 pub first-here : (n m : ℕ) (f : ℕ → Bool) (i : ℕ) → m ≡ n → i < m → f i ≡ true → ((k : ℕ) → k < i → f k ≡ false) → i ≡ first_below n f
@@ -40,13 +39,13 @@ pub first-nowhere : (n m : ℕ) (f : ℕ → Bool) (i : ℕ) → m ≡ n → i �
 first-nowhere n m f i same all before = all ∙ same ∙ sym (first-missing n f (λ k l. before k (omega arith)))
 
 -- columns are as long as their log, which is not above 512
-pub column-few : (log : Log) (senders targets : List ℕ) → length log.entries ≡ 512 → Good log → Columns (entries_of log) senders targets → length senders ≤ 512
-column-few log senders targets whole good columns = omega (arith, columns.many, entries-many log whole good.few, good.few)
+pub column-few : (log : Log) (senders targets : List ℕ) → Good log → Columns (entries_of log) senders targets → length senders ≤ 512
+column-few log senders targets good columns = omega (arith, columns.many, entries_few log, good.few)
 
 -- the count of an entry that is in a column
-pub column-small : (log : Log) (senders targets : List ℕ) → length log.entries ≡ 512 → (good : Good log) → Columns (entries_of log) senders targets
+pub column-small : (log : Log) (senders targets : List ℕ) → (good : Good log) → Columns (entries_of log) senders targets
     → (i : ℕ) → i < length senders → (get_or log.entries i no_entry).count ≤ word_limit
-column-small log senders targets whole good columns i low = good.small i (omega (arith, columns.many, entries-many log whole good.few))
+column-small log senders targets good columns i low = good.small i (omega (arith, columns.many, entries_few log))
 
 module _ (sends receives : List Logged) (senders targets sources receivers : List ℕ) (sent : Columns sends senders targets) (received : Columns receives sources receivers) where
   -- receive j finds no send of its rank

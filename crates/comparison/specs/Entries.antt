@@ -1,5 +1,6 @@
 -- A log that is not refused, and the columns of its entries.
 use Rattle.std.specs.Prelude.{◌≡◌, List, [], ℕ, ◌≤◌, ◌<◌, length, get_or}
+use Rattle.model.specs.declared.Pair.{Pair}
 use Rattle.model.specs.Operations.{word_limit}
 use Rattle.logs.specs.declared.LogEntry.{LogEntry}
 use Rattle.logs.specs.declared.Log.{Log}
@@ -20,6 +21,10 @@ FirstUnsent senders targets sources receivers r = (sends receives : List Logged)
 -- no entry
 abbrev pub no_entry : LogEntry
 no_entry = record { sender = 0; target = 0; count = 0; words = [] }
+
+-- the sender and the target of an entry
+abbrev pub pair_of : LogEntry → Pair
+pair_of entry = record { sender = entry.sender; target = entry.target }
 
 -- a log that is not refused
 pub record Good (log : Log) : Type 0 where
