@@ -1,10 +1,11 @@
 -- Laws of writing: nothing, one byte, one text behind another; and of a text that is printed.
-use Rattle.std.proofs.Common.{◌≡◌, refl, ap, sym, ◌∙◌, ℕ, suc, ◌+◌, ◌-◌, ◌≤◌, ◌<◌, leb, min, List, [], ◌∷◌, ◌++◌, length, take, drop, slice_set, arith}
+use Rattle.std.proofs.Common.{◌≡◌, refl, ap, sym, ◌∙◌, ℕ, suc, ◌+◌, ◌-◌, ◌≤◌, ◌<◌, leb, min, List, [], ◌∷◌, ◌++◌, length, take, drop, slice_set, arith, MutBor}
 use Rattle.std.proofs.lemmas.List.{take_more}
 use Rattle.std.proofs.lemmas.List.Edits.{sets, sets-eq}
 use Rattle.std.proofs.Math.ListN.{set, length-append}
 use Rattle.std.proofs.Math.Seq.{length-sets, set_out, length-take-le, take-append_seam}
 use borrow.Author.Tests.{leb-true, leb-false}
+use mir.Facts.{to_z-of_z}
 use Rattle.model.proofs.Laws.{by}
 use Rattle.text.specs.declared.Text.{Text}
 use Rattle.text.specs.Writing.{Counts, written, Written, Printed}
@@ -58,6 +59,10 @@ written_joined a b t =
     let place : t.len + n + min (length b) (length (sets t.out.now t.len a) - (t.len + n)) ≡ t.len + min (length (a ++ b)) (length t.out.now - t.len) = omega (arith, length-append a b, long) in
     rw (place, sets_cut a b t.out.now t.len) refl
 
+-- a text is its first part and then the rest
+pub written_append : (a b : List ℕ) (t : Text) → written (a ++ b) t ≡ written b (written a t)
+written_append a b t = sym (written_joined a b t)
+
 -- ---- what is behind the reference
 -- the caller's bytes are the same ones
 pub written_name : (text : List ℕ) (t : Text) → (written text t).out.ghost_name ≡ t.out.ghost_name
@@ -74,8 +79,19 @@ pub written_len : (text : List ℕ) (t : Text) → (written text t).len ≡ t.le
 unfolding written
 written_len text t = refl
 
+-- a text over a caller's bytes from a place on, when it is let go: what it says of those bytes
+pub written_front : {start stop : ℕ} {text after : List ℕ} {out : MutBor (List ℕ)} {begun : Text} (ended : Text) → stop ≡ ended.len → begun ≡ record { out = out; len = start }
+    → (out.ghost_name ≡ ended.out.ghost_name → after ≡ ended.out.now) → ended ≡ written text begun → Written start text out.now after stop
+written_front {text = text} {begun = begun} ended stops begins holds all = record {
+  bytes = holds (sym (rw all (rw begins (written_name text _)))) ∙ rw all (rw begins (written_now text _));
+  place = stops ∙ rw all (rw begins (written_len text _));
+}
+
 -- what a function that writes texts one behind the other needs
-pub ruleset writing = (written_none, written_byte, written_full, written_joined, written_name, written_now, written_len, take_more)
+pub ruleset writing = (written_append, written_name, written_now, written_len, to_z-of_z)
+
+-- and one that stores the bytes
+pub ruleset storing = (written_none, written_byte, written_full, written_joined, take_more)
 
 -- ---- a text that is printed
 -- writing changes no length

@@ -1,6 +1,6 @@
 // Text written into a caller's bytes, as far as they reach.
 
-#![tactic(auto, using(crate::proofs::Writing::writing, crate::proofs::Words::numerals), unfolding(crate::specs::Texts::numbers_line, crate::specs::Texts::answer_text, model::specs::Bondtrace::ascii, model::specs::Lists::up_to))]
+#![tactic(auto, using(crate::proofs::Writing::storing, crate::proofs::Words::numerals), unfolding(crate::specs::Texts::numbers_line, crate::specs::Texts::answer_text, model::specs::Bondtrace::ascii, model::specs::Lists::up_to))]
 
 ghost use Rattle.std.specs.Prelude.{◌≡◌, [], ◌∷◌, ◌*◌, ◌≤◌, length, min, take};
 ghost use Rattle.model.specs.Bondtrace.{decimal, signed, spaced};
