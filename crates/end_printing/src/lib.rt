@@ -5,10 +5,10 @@
 ghost use Rattle.std.specs.Prelude.{◌≡◌, Bool, List, [], ◌++◌, ℕ, ◌+◌, ◌≤◌, ◌<◌, length, take, IfOk, OnOk};
 ghost use Rattle.std.specs.Io.KnownBytes.{Appends};
 ghost use Rattle.model.specs.Bondtrace.{bondtrace};
-ghost use Rattle.text.specs.Writing.{Counts, Printed};
+ghost use Rattle.text.specs.Writing.{Counts, Written, Printed};
 ghost use Rattle.opening.specs.Opened.{Steady};
 ghost use Rattle.played_text.specs.Known.{Reached, Starts, longest_end};
-ghost use Rattle.end_printing.specs.Input.{Told, TellsSome};
+ghost use Rattle.end_printing.specs.Input.{too_long, Told, TellsSome};
 
 use opening::Playback;
 use refill::Supply;
@@ -44,6 +44,16 @@ fn end_of(playback: Playback, store: &[u32], left: usize, delivered: u64, out: &
         length: length,
         delivered: delivered,
     }
+}
+
+// That more was delivered than is played.
+#[tactic(auto, using(text::proofs::Writing::writing), unfolding(crate::specs::Input::too_long, model::specs::Bondtrace::ascii, model::specs::Lists::up_to))]
+fn put_too_long(out: &mut [u8]) -> usize
+    ensures { Written 0 too_long out.old out.new result }
+{
+    let mut line = text::Text::new(out);
+    line.bytes(b"input too long\n");
+    line.len()
 }
 
 // Plays what stands in the buffer behind the table record, and the rest of the input; the text of it all.
@@ -84,7 +94,7 @@ fn play_on<R: Read>(
             return Ok(end_of(playback, &words[..size], left, supply.delivered, out));
         }
     }
-    let length = text::put_text(out, 0, b"input too long\n");
+    let length = put_too_long(out);
     Ok(Ended {
         length: length,
         delivered: supply.delivered,

@@ -1,21 +1,17 @@
 -- Laws of reasons as text, and of words that are said.
-use mathlib.Core.Logic.{◌≢◌}
-use mathlib.Core.Path.{◌≡◌, refl, sym, ◌∙◌, ap}
-use mathlib.Core.Bool.{true, false, not}
-use mathlib.Core.List.{List, [], ◌∷◌, ◌++◌, append_assoc, append-nil}
-use Prim.Native.Nat.{ℕ, zero, suc, ◌≤◌}
-use native.Mathlib.Omega.{arith}
-use lib.Dec.{eqb}
-use lib.ListN.{length, drop, get_or-eq_default}
-use lib.Seq.{drop-nil}
+use Rattle.std.proofs.Common.{◌≢◌, ◌≡◌, refl, sym, ◌∙◌, ap, true, false, not, List, [], ◌∷◌, ◌++◌, append_assoc, append-nil, ℕ, zero, suc, ◌≤◌, eqb, length, drop, arith}
+use Rattle.std.proofs.Math.ListN.{get_or-eq_default}
+use Rattle.std.proofs.Math.Seq.{drop-nil}
 use borrow.Author.Tests.{eq-eqb, ne_eqb}
+use Rattle.model.specs.Lists.{up_to}
 use Rattle.model.specs.Schedule.{is_empty}
 use Rattle.model.specs.Bondtrace.{ascii}
 use Rattle.language.specs.Words.{words}
 use Rattle.language.specs.Commands.{not_number, reasons, reason_text}
 use Rattle.scanning.specs.Scanned.{Found, between}
-use Rattle.text.specs.Writing.{Written}
-use Rattle.text.proofs.Writing.{nothing_written, ◌then◌}
+use Rattle.text.specs.declared.Text.{Text}
+use Rattle.text.specs.Writing.{written}
+use Rattle.text.proofs.Writing.{written_none, written_joined}
 use Rattle.replies.specs.Replied.{names_word, named_word, behind_spaces}
 
 -- past the last reason there is no text
@@ -78,30 +74,30 @@ past_end (byte ∷ line) (suc at) past = past_end line at (omega arith)
 
 -- ---- words written behind spaces
 -- what is written of them up to a place, and what is left
-pub record Saying (start : ℕ) (line : List ℕ) (from at : ℕ) (before after : List ℕ) (stop : ℕ) : Type 0 where
+pub record Saying (line : List ℕ) (from at : ℕ) (before after : Text) : Type 0 where
   pub text : List ℕ
-  pub written : Written start text before after stop
+  pub told : after ≡ written text before
   pub rest : behind_spaces (words (drop from line)) ≡ text ++ behind_spaces (words (drop at line))
 
 -- nothing yet
-pub nothing_said : (start : ℕ) (line : List ℕ) (from : ℕ) (before : List ℕ) → Saying start line from from before before start
-nothing_said start line from before = record { text = []; written = nothing_written start before; rest = refl }
+pub nothing_said : (line : List ℕ) (from : ℕ) (before : Text) → Saying line from from before before
+nothing_said line from before = record { text = []; told = sym (written_none before); rest = refl }
 
-module _ {start : ℕ} {line : List ℕ} {from at : ℕ} {before between1 : List ℕ} {middle : ℕ} (s : Saying start line from at before between1 middle) where
+module _ {line : List ℕ} {from at : ℕ} {before middle : Text} (s : Saying line from at before middle) where
   -- one word more
-  pub word-said : {first end place stop : ℕ} {space after : List ℕ} → Found line at first end → first ≢ end → Written middle (ascii " ") between1 space place
-      → Written place (between first end line) space after stop → Saying start line from end before after stop
-  unfolding behind_spaces
+  pub word-said : {first end : ℕ} {spaced after : Text} → Found line at first end → first ≢ end → spaced ≡ written (32 ∷ []) middle → after ≡ written (between first end line) spaced
+      → Saying line from end before after
+  unfolding behind_spaces ascii up_to
   word-said {first} {end} f n gap word = record {
-    text = s.text ++ (ascii " " ++ between first end line);
-    written = s.written then (gap then word);
+    text = s.text ++ (32 ∷ between first end line);
+    told = rw (word, gap, s.told, written_joined, written_joined) refl;
     rest = s.rest ∙ ap (λ (l : List (List ℕ)). s.text ++ behind_spaces l) (one_left f n) ∙ again;
   }
     where
-      again : s.text ++ (ascii " " ++ between first end line ++ behind_spaces (words (drop end line))) ≡ s.text ++ (ascii " " ++ between first end line) ++ behind_spaces (words (drop end line))
-      again = sym (append_assoc s.text (ascii " " ++ between first end line) (behind_spaces (words (drop end line))))
+      again : s.text ++ (32 ∷ between first end line ++ behind_spaces (words (drop end line))) ≡ s.text ++ (32 ∷ between first end line) ++ behind_spaces (words (drop end line))
+      again = sym (append_assoc s.text (32 ∷ between first end line) (behind_spaces (words (drop end line))))
 
   -- nothing is left
-  pub all_said : words (drop at line) ≡ [] → Written start (behind_spaces (words (drop from line))) before between1 middle
+  pub all_said : words (drop at line) ≡ [] → middle ≡ written (behind_spaces (words (drop from line))) before
   unfolding behind_spaces
-  all_said e = rw (s.rest, e, append-nil) s.written
+  all_said e = rw (s.rest, e, append-nil) s.told

@@ -1,15 +1,15 @@
-// What the console says of itself: errors, marks and help, written into a caller's bytes from a place on, as far as they reach.
+// What the console says of itself: errors, marks and help, written into a caller's bytes as far as they reach.
 
-#![tactic(auto)]
+#![tactic(auto, using(text::proofs::Writing::writing), unfolding(language::specs::Commands::reason_text, language::specs::Commands::reasons, model::specs::Bondtrace::ascii, model::specs::Lists::up_to))]
 
 ghost use Rattle.std.specs.Prelude.{◌≡◌, ◌≤◌, length, drop};
 ghost use Rattle.language.specs.Words.{words};
 ghost use Rattle.language.specs.Commands.{reason_text};
-ghost use Rattle.text.specs.Writing.{Written};
+ghost use Rattle.text.specs.Writing.{written, Written};
 ghost use Rattle.replies.specs.Replied.{names_word, named_word, error_text, behind_spaces, joined_words, said_text};
 
 use scanning::next_word;
-use text::{NEWLINE, SPACE, put_byte, put_number, put_text};
+use text::{NEWLINE, SPACE, Text};
 
 // Why a command is no line of a schedule.
 pub const NOT_RECORD: u8 = 10;
@@ -23,26 +23,26 @@ pub const ROWS_FULL: u8 = 13;
 pub const LOG_FULL: u8 = 14;
 
 // A reason in plain words.
-fn put_reason(out: &mut [u8], start: usize, reason: u8) -> usize
-    ensures { Written start (reason_text reason) out.old out.new result }
+fn put_reason(out: &mut Text, reason: u8)
+    ensures { out.new ≡ written (reason_text reason) out.old }
 {
     match reason {
-        0 => put_text(out, start, b"no error"),
-        commands::NO_COMMAND => put_text(out, start, b"no such command"),
-        commands::NO_FIELD => put_text(out, start, b"no such field"),
-        commands::NO_PART => put_text(out, start, b"neither send nor receive"),
-        commands::MISSING => put_text(out, start, b"a number is missing"),
-        letters::NOT_NUMBER => put_text(out, start, b"not a number"),
-        letters::TOO_LARGE => put_text(out, start, b"number too large"),
-        letters::TOO_SMALL => put_text(out, start, b"number too small"),
-        commands::TOO_MUCH => put_text(out, start, b"too much on the line"),
-        commands::TOO_LONG => put_text(out, start, b"line too long"),
-        NOT_RECORD => put_text(out, start, b"no line of a schedule"),
-        TABLE_FIRST => put_text(out, start, b"table stands first, and only there"),
-        letters::NO_CHOICE => put_text(out, start, b"neither yes nor no"),
-        ROWS_FULL => put_text(out, start, b"no more than 80 rows are kept"),
-        LOG_FULL => put_text(out, start, b"no more than 520 entries are kept"),
-        _ => start,
+        0 => out.bytes(b"no error"),
+        commands::NO_COMMAND => out.bytes(b"no such command"),
+        commands::NO_FIELD => out.bytes(b"no such field"),
+        commands::NO_PART => out.bytes(b"neither send nor receive"),
+        commands::MISSING => out.bytes(b"a number is missing"),
+        letters::NOT_NUMBER => out.bytes(b"not a number"),
+        letters::TOO_LARGE => out.bytes(b"number too large"),
+        letters::TOO_SMALL => out.bytes(b"number too small"),
+        commands::TOO_MUCH => out.bytes(b"too much on the line"),
+        commands::TOO_LONG => out.bytes(b"line too long"),
+        NOT_RECORD => out.bytes(b"no line of a schedule"),
+        TABLE_FIRST => out.bytes(b"table stands first, and only there"),
+        letters::NO_CHOICE => out.bytes(b"neither yes nor no"),
+        ROWS_FULL => out.bytes(b"no more than 80 rows are kept"),
+        LOG_FULL => out.bytes(b"no more than 520 entries are kept"),
+        _ => {}
     }
 }
 
@@ -57,81 +57,82 @@ fn names_word(reason: u8, word: &[u8]) -> bool
 }
 
 // The word that is wrong, behind a colon, where it is named.
-fn put_named(out: &mut [u8], start: usize, reason: u8, word: &[u8]) -> usize
-    ensures { Written start (named_word reason word.now) out.old out.new result }
+fn put_named(out: &mut Text, reason: u8, word: &[u8])
+    ensures { out.new ≡ written (named_word reason word.now) out.old }
 {
     if names_word(reason, word) {
-        let end = put_text(out, start, b": ");
-        return put_text(out, end, word);
+        out.bytes(b": ");
+        out.bytes(word);
     }
-    start
 }
 
 // The line that says why line n is no command.
 pub fn put_error(out: &mut [u8], start: usize, n: u64, reason: u8, word: &[u8]) -> usize
     ensures { Written start (error_text n reason word.now) out.old out.new result }
 {
-    let named = put_text(out, start, b"error at line ");
-    let numbered = put_number(out, named, n);
-    let spaced = put_text(out, numbered, b": ");
-    let told = put_reason(out, spaced, reason);
-    let ended = put_named(out, told, reason, word);
-    put_byte(out, ended, NEWLINE)
+    let mut text = Text::at(out, start);
+    text.bytes(b"error at line ");
+    text.number(n);
+    text.bytes(b": ");
+    put_reason(&mut text, reason);
+    put_named(&mut text, reason, word);
+    text.byte(NEWLINE);
+    text.len()
 }
 
 // Words from a place of a line on, each behind a space.
-fn put_behind(out: &mut [u8], start: usize, line: &[u8], from: usize) -> usize
+fn put_behind(out: &mut Text, line: &[u8], from: usize)
     requires { from ≤ length line.now }
-    ensures { Written start (behind_spaces (words (drop from line.now))) out.old out.new result }
+    ensures { out.new ≡ written (behind_spaces (words (drop from line.now))) out.old }
 {
-    let mut end = start;
     let mut at = from;
     while at < line.len() {
         let word = next_word(line, at);
-        let first = word.start;
-        let stop = word.end;
-        if first == stop {
-            return end;
+        if word.start == word.end {
+            return;
         }
-        let spaced = put_byte(out, end, SPACE);
-        end = put_text(out, spaced, &line[first..stop]);
-        at = stop;
+        out.byte(SPACE);
+        out.bytes(&line[word.start..word.end]);
+        at = word.end;
     }
-    end
 }
 
 // Words from a place of a line on, one space between them.
-fn put_joined(out: &mut [u8], start: usize, line: &[u8], from: usize) -> usize
+fn put_joined(out: &mut Text, line: &[u8], from: usize)
     requires { from ≤ length line.now }
-    ensures { Written start (joined_words (words (drop from line.now))) out.old out.new result }
+    ensures { out.new ≡ written (joined_words (words (drop from line.now))) out.old }
 {
     let word = next_word(line, from);
-    let first = word.start;
-    let stop = word.end;
-    if first == stop {
-        return start;
+    if word.start != word.end {
+        out.bytes(&line[word.start..word.end]);
+        put_behind(out, line, word.end);
     }
-    let end = put_text(out, start, &line[first..stop]);
-    put_behind(out, end, line, stop)
+}
+
+// The words behind a command, as a line.
+fn put_rest(out: &mut Text, line: &[u8])
+    ensures { out.new ≡ written (said_text line.now) out.old }
+{
+    let command = next_word(line, 0);
+    if command.start != command.end {
+        put_joined(out, line, command.end);
+    }
+    out.byte(NEWLINE);
 }
 
 // The answer to `say`: the words behind it.
 pub fn put_said(out: &mut [u8], start: usize, line: &[u8]) -> usize
     ensures { Written start (said_text line.now) out.old out.new result }
 {
-    let command = next_word(line, 0);
-    if command.start == command.end {
-        return put_byte(out, start, NEWLINE);
-    }
-    let end = put_joined(out, start, line, command.end);
-    put_byte(out, end, NEWLINE)
+    let mut text = Text::at(out, start);
+    put_rest(&mut text, line);
+    text.len()
 }
 
 // The commands, a line each.
 pub fn put_help(out: &mut [u8], start: usize) -> usize {
-    put_text(
-        out,
-        start,
+    let mut text = Text::at(out, start);
+    text.bytes(
         b"\
 table N                  a new table of N threads (1 to 32), a store of zeros, records for the report
 begin X PARTS            thread X begins; PARTS: [send T CODE WORD ..] [receive any CODE | receive P CODE | receive P,Q,.. CODE | receive set M CODE]
@@ -158,5 +159,6 @@ size N                   sets the table's N by force
 set X FIELD ..           sets a field of thread X by force: flags, phase, left, owner, outcome, copied, waking, queue, queuelength, operation, target, present
 help                     this
 ",
-    )
+    );
+    text.len()
 }

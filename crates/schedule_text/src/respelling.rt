@@ -7,6 +7,7 @@ use commands::{TICK_ROW, command, no_numbers};
 use model::{Answer, Operation, Record};
 use reading::{LONGEST, record_length};
 use record_text::put_record;
+use text::Text;
 use writing::write;
 
 // Two runs of bytes have the same first n.
@@ -45,10 +46,11 @@ fn writes_one(first: bool, row: u8, op: Operation, numbers: &[u32], bytes: &[u8]
 
 // The line of a record is read as one record again, which is written as the first of these bytes.
 pub fn respelled(first: bool, item: Record, bytes: &[u8]) -> bool {
-    let mut line = [0u8; 4096];
-    let end = put_record(&mut line, 0, item);
+    let mut space = [0u8; 4096];
+    let mut line = Text::new(&mut space);
+    put_record(&mut line, item);
     let mut numbers = no_numbers();
-    let parsed = command(&line[..end], &mut numbers);
+    let parsed = command(line.front(), &mut numbers);
     if parsed.reason != 0 {
         return false;
     }

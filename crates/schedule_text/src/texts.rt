@@ -9,14 +9,16 @@ use record_input::{LAST_BYTE, next_record, nothing_read, print_bad};
 use record_text::put_record;
 use std::io;
 use std::io::{Read, Write};
-use text::{NEWLINE, put_byte};
+use text::{NEWLINE, Text};
 
 // The line of a record from the first byte on, with what ends it.
 fn put_line(item: Record, out: &mut [u8]) -> usize
     ensures { Printed (record_text item) (longest_line + 1) out.old out.new result }
 {
-    let end = put_record(out, 0, item);
-    put_byte(out, end, NEWLINE)
+    let mut line = Text::new(out);
+    put_record(&mut line, item);
+    line.byte(NEWLINE);
+    line.len()
 }
 
 // Prints the line of a record.

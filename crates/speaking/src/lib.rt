@@ -5,5 +5,5 @@
 mod changes;
 mod names;
 
-pub use changes::{Told, put_changes};
+pub use changes::put_changes;
 pub use names::put_call;

@@ -3,7 +3,7 @@ use crate::lines::print_line;
 use model::Answer;
 use std::io;
 use std::io::Write;
-use text::{put_answer, put_byte, put_number};
+use text::{SPACE, Text};
 
 // Prints the answer to the table record, which is accepted.
 pub fn print_made<W: Write>(output: &mut W) -> io::Result<()> {
@@ -12,10 +12,10 @@ pub fn print_made<W: Write>(output: &mut W) -> io::Result<()> {
 
 // Prints a record's place in the schedule and the answer to its call.
 pub fn print_answer<W: Write>(output: &mut W, place: u64, answer: Answer) -> io::Result<()> {
-    let mut line = [0u8; 4096];
-    let out: &mut [u8] = &mut line;
-    let placed = put_number(out, 0, place);
-    let spaced = put_byte(out, placed, b' ');
-    let end = put_answer(out, spaced, answer);
-    print_line(output, out, end)
+    let mut space = [0u8; 4096];
+    let mut line = Text::new(&mut space);
+    line.number(place);
+    line.byte(SPACE);
+    line.answer(answer);
+    print_line(output, &mut line)
 }

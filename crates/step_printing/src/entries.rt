@@ -3,7 +3,7 @@ use crate::lines::print_line;
 use model::{Answer, Record, SendPart, Table};
 use std::io;
 use std::io::Write;
-use text::{SPACE, put_byte, put_number, put_text, put_words};
+use text::{SPACE, Text};
 use words::first_words;
 
 // Prints an entry: its command, the two threads and the words.
@@ -14,14 +14,14 @@ fn print_entry<W: Write>(
     second: u8,
     words: &[u32],
 ) -> io::Result<()> {
-    let mut line = [0u8; 4096];
-    let out: &mut [u8] = &mut line;
-    let named = put_text(out, 0, command);
-    let one = put_number(out, named, first as u64);
-    let spaced = put_byte(out, one, SPACE);
-    let both = put_number(out, spaced, second as u64);
-    let end = put_words(out, both, words);
-    print_line(output, out, end)
+    let mut space = [0u8; 4096];
+    let mut line = Text::new(&mut space);
+    line.bytes(command);
+    line.number(u64::from(first));
+    line.byte(SPACE);
+    line.number(u64::from(second));
+    line.words(words);
+    print_line(output, &mut line)
 }
 
 // Prints what thread x began to send. The words of a send part lie as those of the first thread of a store.

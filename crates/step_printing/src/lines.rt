@@ -2,18 +2,13 @@
 use model::Thread;
 use std::io;
 use std::io::Write;
+use text::{NEWLINE, Text};
 use threads::WORD_LIMIT;
 
-// Prints the text up to a place.
-fn print_text<W: Write>(output: &mut W, out: &[u8], end: usize) -> io::Result<()> {
-    let stop = numbers::lesser(end, out.len());
-    output.write_all(&out[0..stop])
-}
-
-// Ends the line at a place and prints it.
-pub fn print_line<W: Write>(output: &mut W, out: &mut [u8], end: usize) -> io::Result<()> {
-    let ended = text::put_byte(out, end, b'\n');
-    print_text(output, out, ended)
+// Ends a line and prints it.
+pub fn print_line<W: Write>(output: &mut W, line: &mut Text) -> io::Result<()> {
+    line.byte(NEWLINE);
+    output.write_all(line.front())
 }
 
 // Prints the line of thread x, with its eight words of the store.
@@ -24,8 +19,8 @@ pub fn print_thread<W: Write>(
     store: &[u32],
 ) -> io::Result<()> {
     let words = words::first_words(store, x, WORD_LIMIT);
-    let mut line = [0u8; 4096];
-    let out: &mut [u8] = &mut line;
-    let end = showing::put_thread(out, 0, x, thread, words);
-    print_text(output, out, end)
+    let mut space = [0u8; 4096];
+    let mut line = Text::new(&mut space);
+    showing::put_thread(&mut line, x, thread, words);
+    output.write_all(line.front())
 }

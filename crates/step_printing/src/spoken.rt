@@ -3,7 +3,7 @@ use crate::lines::print_line;
 use model::{Answer, Record, Table};
 use std::io;
 use std::io::Write;
-use text::put_text;
+use text::{SPACE, Text};
 use threads::WORD_LIMIT;
 use words::first_words;
 
@@ -11,48 +11,25 @@ use words::first_words;
 const COLUMN: usize = 24;
 
 // Spaces up to a column.
-fn put_pad(out: &mut [u8], start: usize, column: usize) -> usize {
-    let mut end = start;
-    let mut i = start;
-    while i < column {
-        end = text::put_byte(out, end, text::SPACE);
-        i += 1;
+fn put_pad(line: &mut Text, column: usize) {
+    for _place in line.len()..column {
+        line.byte(SPACE);
     }
-    end
 }
 
 // The changes of all threads.
-fn put_all(
-    out: &mut [u8],
-    start: usize,
-    before: Table,
-    after: Table,
-    old: &[u32],
-    new: &[u32],
-) -> usize {
-    let n = after.n as usize;
-    let mut end = start;
-    let mut i: usize = 0;
-    while i < 32 {
-        if n <= i {
-            return end;
-        }
-        let x = i as u8;
-        let was = before.threads[i];
-        let is = after.threads[i];
-        let told = speaking::put_changes(
-            out,
-            end,
+fn put_all(line: &mut Text, before: Table, after: Table, old: &[u32], new: &[u32]) {
+    for x in 0..after.n.min(32) {
+        let i = usize::from(x);
+        speaking::put_changes(
+            line,
             x,
-            was,
-            is,
+            before.threads[i],
+            after.threads[i],
             first_words(old, x, WORD_LIMIT),
             first_words(new, x, WORD_LIMIT),
         );
-        end = told.end;
-        i += 1;
     }
-    end
 }
 
 // Prints the line of a record.
@@ -67,24 +44,25 @@ pub fn print_spoken<W: Write>(
     new: &[u32],
 ) -> io::Result<()> {
     let mut space = [0u8; 65536];
-    let out: &mut [u8] = &mut space;
-    let called = speaking::put_call(out, 0, place, item, answer);
-    let column = put_pad(out, called, COLUMN);
-    let changed = put_all(out, column, before, after, old, new);
+    let mut line = Text::new(&mut space);
+    speaking::put_call(&mut line, place, item, answer);
+    let called = line.len();
+    put_pad(&mut line, COLUMN);
+    let column = line.len();
+    put_all(&mut line, before, after, old, new);
     // Where nothing changed, the line ends with the answer.
-    let mut end = called;
-    if column < changed {
-        end = changed;
+    if line.len() == column {
+        line.truncate(called);
     }
-    print_line(output, out, end)
+    print_line(output, &mut line)
 }
 
 // Prints the line of the table record, which is accepted.
 pub fn print_made<W: Write>(output: &mut W, item: Record) -> io::Result<()> {
-    let mut line = [0u8; 4096];
-    let out: &mut [u8] = &mut line;
-    let named = put_text(out, 0, b"0 ");
-    let called = record_text::put_record(out, named, item);
-    let made = put_text(out, called, b": made");
-    print_line(output, out, made)
+    let mut space = [0u8; 4096];
+    let mut line = Text::new(&mut space);
+    line.bytes(b"0 ");
+    record_text::put_record(&mut line, item);
+    line.bytes(b": made");
+    print_line(output, &mut line)
 }

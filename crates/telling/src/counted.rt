@@ -1,12 +1,9 @@
 // How many lists of steps end how: a line for each combination of codes that some list ends with.
-ghost use Rattle.std.specs.Prelude.{◌≤◌};
-
-use crate::lines::put_line;
+use crate::lines::tell_answer;
 use counts::{Counted, count_endings};
 use digits::code_of;
 use model::{Answer, Table};
-use numbers::lesser;
-use text::{SPACE, put_byte, put_number, put_numbers, put_signed, put_text};
+use text::{NEWLINE, SPACE, Text};
 
 // The most places that are lent.
 const PLACES: usize = 4200;
@@ -15,102 +12,60 @@ const PLACES: usize = 4200;
 const MARK: u32 = 7;
 
 // The line of a place that has a count: the codes of n threads, thread 0 in the lowest digit to base 8, and the count.
-fn put_ending(out: &mut [u8], start: usize, n: u8, place: usize, count: u32) -> usize {
+fn tell_ending(out: &mut Text, n: u8, place: usize, count: u32) {
     if count == 0 {
-        return start;
+        return;
     }
-    let mut end = start;
     let mut digits = place;
-    let mut x: u8 = 0;
-    while x < n {
-        end = put_signed(out, end, code_of(digits % 8));
-        end = put_byte(out, end, SPACE);
-        digits = digits / 8;
-        x += 1;
+    for _x in 0..n {
+        out.signed(code_of(digits % 8));
+        out.byte(SPACE);
+        digits /= 8;
     }
-    end = put_number(out, end, count as u64);
-    put_byte(out, end, text::NEWLINE)
-}
-
-// The lines of a place: one where it has a count.
-fn lines_of(count: u32) -> usize
-    ensures { result ≤ 1 }
-{
-    if count == 0 {
-        return 0;
-    }
-    1
-}
-
-// How many places have a count.
-fn endings(counts: &[u32]) -> usize {
-    let mut lines: usize = 0;
-    let mut i: usize = 0;
-    while i < counts.len() {
-        lines += lines_of(counts[i]);
-        i += 1;
-    }
-    lines
+    out.number(u64::from(count));
+    out.byte(NEWLINE);
 }
 
 // A line for each place that has a count.
-fn put_endings(out: &mut [u8], start: usize, n: u8, counts: &[u32]) -> usize {
-    let mut end = start;
-    let mut i: usize = 0;
-    while i < counts.len() {
-        end = put_ending(out, end, n, i, counts[i]);
-        i += 1;
+fn tell_endings(out: &mut Text, n: u8, counts: &[u32]) {
+    for (place, count) in counts.iter().enumerate() {
+        tell_ending(out, n, place, *count);
     }
-    end
-}
-
-// Whether every place still holds the mark.
-fn unchanged(counts: &[u32]) -> bool {
-    let mut i: usize = 0;
-    while i < counts.len() {
-        if counts[i] != MARK {
-            return false;
-        }
-        i += 1;
-    }
-    true
 }
 
 // A refusal, and what it changed, which is nothing.
-fn put_refused(out: &mut [u8], answer: Answer, counts: &[u32]) -> usize {
-    let end = put_line(out, 0, answer);
-    if unchanged(counts) {
-        return end;
+fn tell_refused(out: &mut Text, answer: Answer, counts: &[u32]) {
+    tell_answer(out, answer);
+    if !counts.iter().all(|count| *count == MARK) {
+        out.bytes(b"changed: counts\n");
     }
-    put_text(out, end, b"changed: counts\n")
 }
 
 // What a count answered: the length used and how many lines follow, and these; or a refusal.
-fn put_counted(out: &mut [u8], n: u8, counted: Counted, counts: &[u32]) -> usize {
-    let answer = counted.answer;
-    if let Answer::Refused(_) = answer {
-        return put_refused(out, answer, counts);
+fn tell_counted(out: &mut Text, n: u8, counted: Counted, counts: &[u32]) {
+    if let Answer::Refused(_) = counted.answer {
+        return tell_refused(out, counted.answer, counts);
     }
-    let lines = endings(counts);
-    let end = put_numbers(
-        out,
+    let lines = counts.iter().filter(|count| **count != 0).count();
+    out.numbers(
         b"length ",
-        counted.length as u64,
+        u64::from(counted.length),
         b" lines ",
         lines as u64,
     );
-    put_endings(out, end, n, counts)
+    tell_endings(out, n, counts);
 }
 
 // Counts into the places that are lent.
 fn count_into(table: Table, length: u64, counts: &mut [u32], out: &mut [u8]) -> usize {
     let counted = count_endings(table, length, counts);
-    put_counted(out, table.n, counted, counts)
+    let mut text = Text::new(out);
+    tell_counted(&mut text, table.n, counted, counts);
+    text.len()
 }
 
 // Counts into so many places, 4200 at most.
 pub fn count(table: Table, length: u64, places: usize, out: &mut [u8]) -> usize {
-    let lent = lesser(places, PLACES);
     let mut counts = [MARK; PLACES];
-    count_into(table, length, &mut counts[..lent], out)
+    count_into(table, length, &mut counts[..places.min(PLACES)], out)
 }

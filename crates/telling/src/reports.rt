@@ -1,9 +1,9 @@
 // The report, into as many records as are lent.
 ghost use Rattle.std.specs.Prelude.{◌≤◌};
 
-use crate::lines::put_line;
+use crate::lines::tell_answer;
 use model::{Answer, Outcome, Table};
-use text::put_byte;
+use text::{NEWLINE, Text};
 
 // The most records that are lent.
 pub const RECORDS: usize = 40;
@@ -41,34 +41,20 @@ fn fill(table: Table, records: [Outcome; 40], len: usize) -> Filled
 
 // The report call into so many records, 40 at most.
 pub fn report_to(table: Table, len: usize) -> Filled {
-    let record = blank();
-    let most = numbers::lesser(len, RECORDS);
-    fill(table, [record; 40], most)
-}
-
-// A line for each of the first len records.
-fn put_records(out: &mut [u8], records: [Outcome; 40], len: usize) -> usize {
-    let mut end: usize = 0;
-    let mut i: usize = 0;
-    while i < RECORDS {
-        if len <= i {
-            return end;
-        }
-        let record = records[i];
-        end = printing::put_outcome(out, end, i as u8, record);
-        end = put_byte(out, end, text::NEWLINE);
-        i += 1;
-    }
-    end
+    fill(table, [blank(); 40], len.min(RECORDS))
 }
 
 // The report of all threads into so many records, a line each.
 pub fn report(table: Table, len: usize, out: &mut [u8]) -> usize {
+    let mut text = Text::new(out);
     let filled = report_to(table, len);
-    let answer = filled.answer;
-    let records = filled.records;
-    if let Answer::Refused(_) = answer {
-        return put_line(out, 0, answer);
+    if let Answer::Refused(_) = filled.answer {
+        tell_answer(&mut text, filled.answer);
+        return text.len();
     }
-    put_records(out, records, len)
+    for (i, record) in filled.records[..len.min(RECORDS)].iter().enumerate() {
+        printing::put_outcome(&mut text, i as u8, *record);
+        text.byte(NEWLINE);
+    }
+    text.len()
 }

@@ -1,31 +1,40 @@
 // Whether a table is at rest.
+ghost use Rattle.std.specs.Prelude.{◌≡◌};
 ghost use Rattle.model.specs.Answers.{would_move};
 ghost use Rattle.model.specs.Rest.{rest_answer};
-ghost use Rattle.text.specs.Writing.{Written};
+ghost use Rattle.text.specs.Writing.{written, Written};
 ghost use Rattle.telling.specs.Texts.{rest_text};
 
-use crate::lines::{put_line, put_word};
+use crate::lines::{tell_answer, tell_word};
 use model::{Answer, Table};
 use resting::RestAnswer;
-use text::{put_byte, put_number, put_text};
+use text::{NEWLINE, Text};
 
 // That a thread would move.
-fn put_mover(out: &mut [u8], x: u8) -> usize
-    ensures { Written 0 (rest_text (would_move x)) out.old out.new result }
+fn tell_mover(out: &mut Text, x: u8)
+    ensures { out.new ≡ written (rest_text (would_move x)) out.old }
 {
-    let number = put_number(out, 0, x as u64);
-    let moves = put_text(out, number, b" would move");
-    put_byte(out, moves, text::NEWLINE)
+    out.number(u64::from(x));
+    out.bytes(b" would move");
+    out.byte(NEWLINE);
 }
 
-// Whether every thread's step would stay, or the lowest whose would not.
+// Whether every thread's step would stay, or the lowest whose would not, as a line.
+fn tell_rest(out: &mut Text, table: Table)
+    ensures { out.new ≡ written (rest_text (rest_answer table)) out.old }
+{
+    match resting::rest(table) {
+        RestAnswer::Refused(number) => tell_answer(out, Answer::Refused(number)),
+        RestAnswer::AtRest => tell_word(out, b"at rest"),
+        RestAnswer::WouldMove(x) => tell_mover(out, x),
+    }
+}
+
+// The same as a line at the front.
 pub fn rest(table: Table, out: &mut [u8]) -> usize
     ensures { Written 0 (rest_text (rest_answer table)) out.old out.new result }
 {
-    let answer = resting::rest(table);
-    match answer {
-        RestAnswer::Refused(number) => put_line(out, 0, Answer::Refused(number)),
-        RestAnswer::AtRest => put_word(out, b"at rest"),
-        RestAnswer::WouldMove(x) => put_mover(out, x),
-    }
+    let mut text = Text::new(out);
+    tell_rest(&mut text, table);
+    text.len()
 }

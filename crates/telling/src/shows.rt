@@ -1,79 +1,78 @@
 // The commands that print a thread: its outcome, everything in use, or what its search finds.
+ghost use Rattle.std.specs.Prelude.{◌≡◌};
 ghost use Rattle.model.specs.Answers.{searched};
 ghost use Rattle.model.specs.Promise.{search_answer};
-ghost use Rattle.text.specs.Writing.{Written};
+ghost use Rattle.text.specs.Writing.{written, Written};
 ghost use Rattle.telling.specs.Texts.{sender_text, search_text};
 
-use crate::lines::{put_line, put_word};
-use model::{Answer, Outcome, Table};
+use crate::lines::{tell_answer, tell_word};
+use model::{Answer, Table};
 use queues::Found;
 use searches::SearchAnswer;
-use text::{put_byte, put_number, put_text, put_words};
+use text::{NEWLINE, SPACE, Text};
 use threads::{NOBODY, WORD_LIMIT};
-
-// An outcome and the words that go with it.
-fn put_shown(out: &mut [u8], x: u8, shown: Outcome, words: &[u32]) -> usize {
-    let told = printing::put_outcome(out, 0, x, shown);
-    let ended = put_words(out, told, words);
-    put_byte(out, ended, text::NEWLINE)
-}
 
 // The outcome of thread x and its words, by the public calls.
 pub fn outcome(table: Table, x: u8, store: &[u32], out: &mut [u8]) -> usize {
-    let answer = outcomes::outcome_answer(table, x, store);
-    let words = outcomes::outcome_words(table, x, store);
-    match answer {
-        Err(number) => put_line(out, 0, Answer::Refused(number)),
-        Ok(shown) => put_shown(out, x, shown, words),
+    let mut text = Text::new(out);
+    match outcomes::outcome_answer(table, x, store) {
+        Err(number) => tell_answer(&mut text, Answer::Refused(number)),
+        Ok(shown) => {
+            printing::put_outcome(&mut text, x, shown);
+            text.words(outcomes::outcome_words(table, x, store));
+            text.byte(NEWLINE);
+        }
     }
+    text.len()
 }
 
 // A line for each thread, 32 at most, with those of its words that the store has.
 pub fn show(table: Table, store: &[u32], out: &mut [u8]) -> usize {
-    let n = table.n as usize;
-    let mut end: usize = 0;
-    let mut i: usize = 0;
-    while i < 32 {
-        if n <= i {
-            return end;
-        }
-        let thread = table.threads[i];
-        let x = i as u8;
+    let mut text = Text::new(out);
+    for x in 0..table.n.min(32) {
         let words = words::first_words(store, x, WORD_LIMIT);
-        end = showing::put_thread(out, end, x, thread, words);
-        i += 1;
+        showing::put_thread(&mut text, x, table.threads[usize::from(x)], words);
     }
-    end
+    text.len()
 }
 
 // A sender, or `none`.
-fn put_sender(out: &mut [u8], sender: u8) -> usize
-    ensures { Written 0 (sender_text sender) out.old out.new result }
+fn tell_sender(out: &mut Text, sender: u8)
+    ensures { out.new ≡ written (sender_text sender) out.old }
 {
     if sender == NOBODY {
-        return put_text(out, 0, b"none");
+        out.bytes(b"none");
+    } else {
+        out.number(u64::from(sender));
     }
-    put_number(out, 0, sender as u64)
 }
 
 // What a search found, and how many places it read.
-fn put_found(out: &mut [u8], found: Found) -> usize
-    ensures { Written 0 (search_text (searched found.sender found.read)) out.old out.new result }
+fn tell_found(out: &mut Text, found: Found)
+    ensures { out.new ≡ written (search_text (searched found.sender found.read)) out.old }
 {
-    let sender = put_sender(out, found.sender);
-    let space = put_byte(out, sender, b' ');
-    let read = put_number(out, space, found.read as u64);
-    put_byte(out, read, text::NEWLINE)
+    tell_sender(out, found.sender);
+    out.byte(SPACE);
+    out.number(u64::from(found.read));
+    out.byte(NEWLINE);
 }
 
-// What the search of thread x finds.
+// What the search of thread x finds, as a line.
+fn tell_search(out: &mut Text, table: Table, x: u8)
+    ensures { out.new ≡ written (search_text (search_answer table x)) out.old }
+{
+    match searches::search(table, x) {
+        SearchAnswer::Refused(number) => tell_answer(out, Answer::Refused(number)),
+        SearchAnswer::NotReceiving => tell_word(out, b"not receiving"),
+        SearchAnswer::Searched(found) => tell_found(out, found),
+    }
+}
+
+// The same as a line at the front.
 pub fn search(table: Table, x: u8, out: &mut [u8]) -> usize
     ensures { Written 0 (search_text (search_answer table x)) out.old out.new result }
 {
-    let answer = searches::search(table, x);
-    match answer {
-        SearchAnswer::Refused(number) => put_line(out, 0, Answer::Refused(number)),
-        SearchAnswer::NotReceiving => put_word(out, b"not receiving"),
-        SearchAnswer::Searched(found) => put_found(out, found),
-    }
+    let mut text = Text::new(out);
+    tell_search(&mut text, table, x);
+    text.len()
 }

@@ -1,11 +1,11 @@
-// Text written into a caller's bytes from a place on, as far as they reach.
+// Text written into a caller's bytes, as far as they reach.
 
-#![tactic(auto)]
+#![tactic(auto, using(crate::proofs::Writing::storing, crate::proofs::Words::numerals), unfolding(crate::specs::Texts::numbers_line, crate::specs::Texts::answer_text, model::specs::Bondtrace::ascii, model::specs::Lists::up_to))]
 
-ghost use Rattle.std.specs.Prelude.{◌≡◌, [], ◌∷◌, ◌*◌, ◌≤◌, length, nat_abs};
+ghost use Rattle.std.specs.Prelude.{◌≡◌, [], ◌∷◌, ◌*◌, ◌≤◌, length, min, take};
 ghost use Rattle.model.specs.Bondtrace.{decimal, signed, spaced};
 ghost use Rattle.text.specs.Texts.{numbers_line, answer_text, longest_word};
-ghost use Rattle.text.specs.Writing.{Written};
+ghost use Rattle.text.specs.Writing.{written};
 
 use model::Answer;
 
@@ -21,107 +21,128 @@ const MINUS: u8 = b'-';
 // The digit 0: the others follow it in their order.
 const ZERO: u8 = b'0';
 
-// One byte at a place.
-pub fn put_byte(out: &mut [u8], start: usize, byte: u8) -> usize
-    ensures { Written start (byte ∷ []) out.old out.new result }
-{
-    if out.len() <= start {
-        return start;
+// A caller's bytes, and how many of them at the front are written. Each method writes behind those, and leaves out what has no room.
+#[derive(Drop)]
+pub struct Text<'a> {
+    out: &'a mut [u8],
+    len: usize,
+}
+
+impl<'a> Text<'a> {
+    // From the first byte on.
+    pub fn new(out: &'a mut [u8]) -> Text<'a>
+        ensures { result ≡ record { out = out.entry; len = 0 } }
+    {
+        Text { out, len: 0 }
     }
-    out[start] = byte;
-    start + 1
-}
 
-// Bytes from a place on.
-pub fn put_text(out: &mut [u8], start: usize, text: &[u8]) -> usize
-    ensures { Written start text.now out.old out.new result }
-{
-    let mut end = start;
-    let mut i: usize = 0;
-    while i < text.len() {
-        end = put_byte(out, end, text[i]);
-        i += 1;
+    // From a place on.
+    pub fn at(out: &'a mut [u8], len: usize) -> Text<'a>
+        ensures { result ≡ record { out = out.entry; len = len } }
+    {
+        Text { out, len }
     }
-    end
-}
 
-// A number in decimal: all digits but the last, and then that.
-pub fn put_number(out: &mut [u8], start: usize, n: u64) -> usize
-    ensures { Written start (decimal n) out.old out.new result }
-{
-    let last = ZERO + (n % 10) as u8;
-    if n < 10 {
-        return put_byte(out, start, last);
+    // How many bytes are written.
+    pub fn len(&self) -> usize
+        ensures { result ≡ self.now.len }
+    {
+        self.len
     }
-    let end = put_number(out, start, n / 10);
-    put_byte(out, end, last)
-}
 
-// A code without its sign.
-fn magnitude(code: i32) -> u64
-    ensures { result ≡ nat_abs code }
-{
-    let wide = code as i64;
-    if wide < 0 {
-        return (0 - wide) as u64;
+    // The bytes that are written.
+    pub fn front(&self) -> &[u8]
+        ensures { result.now ≡ take self.now.len self.now.out.now }
+    {
+        &self.out[..self.len.min(self.out.len())]
     }
-    wide as u64
-}
 
-// A code with its sign.
-pub fn put_signed(out: &mut [u8], start: usize, code: i32) -> usize
-    ensures { Written start (signed code) out.old out.new result }
-{
-    let n = magnitude(code);
-    if code < 0 {
-        let end = put_byte(out, start, MINUS);
-        return put_number(out, end, n);
+    // Takes back what is written past a place.
+    pub fn truncate(&mut self, len: usize)
+        ensures { self.new ≡ record self.old { len = min self.old.len len } }
+    {
+        self.len = self.len.min(len);
     }
-    put_number(out, start, n)
-}
 
-// Words, each behind a space.
-pub fn put_words(out: &mut [u8], start: usize, words: &[u32]) -> usize
-    ensures written { Written start (spaced words.now) out.old out.new result }
-    ensures words_len_bound { length (spaced words.now) ≤ longest_word * length words.now }
-{
-    let mut end = start;
-    let mut i: usize = 0;
-    while i < words.len() {
-        let spaced = put_byte(out, end, SPACE);
-        end = put_number(out, spaced, words[i] as u64);
-        i += 1;
-    }
-    end
-}
-
-// A line from the first byte on, of two numbers, each behind its name.
-pub fn put_numbers(out: &mut [u8], name: &[u8], n: u64, next: &[u8], m: u64) -> usize
-    ensures { Written 0 (numbers_line name.now n next.now m) out.old out.new result }
-{
-    let named = put_text(out, 0, name);
-    let first = put_number(out, named, n);
-    let again = put_text(out, first, next);
-    let second = put_number(out, again, m);
-    put_byte(out, second, NEWLINE)
-}
-
-// An answer in words, a refusal with its number.
-pub fn put_answer(out: &mut [u8], start: usize, answer: Answer) -> usize
-    ensures { Written start (answer_text answer) out.old out.new result }
-{
-    match answer {
-        Answer::Refused(number) => {
-            let end = put_text(out, start, b"refused ");
-            put_number(out, end, number as u64)
+    // One byte.
+    pub fn byte(&mut self, byte: u8)
+        ensures { self.new ≡ written (byte ∷ []) self.old }
+    {
+        if self.len < self.out.len() {
+            self.out[self.len] = byte;
+            self.len += 1;
         }
-        Answer::Accepted => put_text(out, start, b"accepted"),
-        Answer::Marked => put_text(out, start, b"marked"),
-        Answer::NothingToCancel => put_text(out, start, b"nothing to cancel"),
-        Answer::Moved => put_text(out, start, b"moved"),
-        Answer::Idle => put_text(out, start, b"idle"),
-        Answer::Held => put_text(out, start, b"held"),
-        Answer::Wants => put_text(out, start, b"wants"),
-        Answer::Asleep => put_text(out, start, b"asleep"),
+    }
+
+    // Bytes.
+    pub fn bytes(&mut self, text: &[u8])
+        ensures { self.new ≡ written text.now self.old }
+    {
+        for byte in text {
+            self.byte(*byte);
+        }
+    }
+
+    // A number in decimal: all digits but the last, and then that.
+    pub fn number(&mut self, n: u64)
+        ensures { self.new ≡ written (decimal n) self.old }
+    {
+        let last = ZERO + (n % 10) as u8;
+        if 10 <= n {
+            self.number(n / 10);
+        }
+        self.byte(last);
+    }
+
+    // A code with its sign.
+    pub fn signed(&mut self, code: i32)
+        ensures { self.new ≡ written (signed code) self.old }
+    {
+        if code < 0 {
+            self.byte(MINUS);
+        }
+        self.number(u64::from(code.unsigned_abs()));
+    }
+
+    // Words, each behind a space.
+    pub fn words(&mut self, words: &[u32])
+        ensures written { self.new ≡ written (spaced words.now) self.old }
+        ensures words_len_bound { length (spaced words.now) ≤ longest_word * length words.now }
+    {
+        for word in words {
+            self.byte(SPACE);
+            self.number(u64::from(*word));
+        }
+    }
+
+    // A line of two numbers, each behind its name.
+    pub fn numbers(&mut self, name: &[u8], n: u64, next: &[u8], m: u64)
+        ensures { self.new ≡ written (numbers_line name.now n next.now m) self.old }
+    {
+        self.bytes(name);
+        self.number(n);
+        self.bytes(next);
+        self.number(m);
+        self.byte(NEWLINE);
+    }
+
+    // An answer in words, a refusal with its number.
+    pub fn answer(&mut self, answer: Answer)
+        ensures { self.new ≡ written (answer_text answer) self.old }
+    {
+        match answer {
+            Answer::Refused(number) => {
+                self.bytes(b"refused ");
+                self.number(u64::from(number));
+            }
+            Answer::Accepted => self.bytes(b"accepted"),
+            Answer::Marked => self.bytes(b"marked"),
+            Answer::NothingToCancel => self.bytes(b"nothing to cancel"),
+            Answer::Moved => self.bytes(b"moved"),
+            Answer::Idle => self.bytes(b"idle"),
+            Answer::Held => self.bytes(b"held"),
+            Answer::Wants => self.bytes(b"wants"),
+            Answer::Asleep => self.bytes(b"asleep"),
+        }
     }
 }

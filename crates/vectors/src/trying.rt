@@ -4,6 +4,7 @@ use model::{Answer, Record, Table};
 use reading::{KIND, THREAD};
 use std::io;
 use std::io::Write;
+use text::Text;
 
 // How many bytes a record is written into at most, and what stands in each before.
 const ALL: usize = 48;
@@ -18,9 +19,9 @@ fn print<W: Write>(output: &mut W, bytes: &[u8]) -> io::Result<()> {
 // Prints an answer in words.
 fn print_answer<W: Write>(output: &mut W, answer: Answer) -> io::Result<()> {
     let mut line = [0u8; 4096];
-    let end = text::put_answer(&mut line, 0, answer);
-    let stop = numbers::lesser(end, line.len());
-    print(output, &line[0..stop])
+    let mut text = Text::new(&mut line);
+    text.answer(answer);
+    print(output, text.front())
 }
 
 // Prints a number behind a space.

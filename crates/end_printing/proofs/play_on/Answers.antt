@@ -60,4 +60,4 @@ loop-supply-preserved g c = record {
 -- ---- the input is too long
 pub returns-clause-told : goal.returns-clause-told
 unfolding too_long ascii up_to
-returns-clause-told g c = (given-up c.loop-supply.invariant.fills c.loop-supply-test.false _ _ _ c.loop-supply.invariant.room c.put_text-length.ensures).1
+returns-clause-told g c = (given-up c.loop-supply.invariant.fills c.loop-supply-test.false _ _ _ c.loop-supply.invariant.room c.put_too_long-length.ensures).1
