@@ -44,7 +44,7 @@ fn answer_line<W: Write>(
     let mut words = stored;
     let reply = dialogue::respond(session, line, number, numbers, &mut words, entries, out);
     let after = reply.session;
-    let end = numbers::lesser(reply.end, out.len());
+    let end = reply.end.min(out.len());
     output.write_all(&out[0..end])?;
     watching::watch(
         output,

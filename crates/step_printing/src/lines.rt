@@ -6,8 +6,7 @@ use threads::WORD_LIMIT;
 
 // Prints the text up to a place.
 fn print_text<W: Write>(output: &mut W, out: &[u8], end: usize) -> io::Result<()> {
-    let stop = numbers::lesser(end, out.len());
-    output.write_all(&out[0..stop])
+    output.write_all(&out[..end.min(out.len())])
 }
 
 // Ends the line at a place and prints it.

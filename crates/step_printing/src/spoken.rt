@@ -13,10 +13,8 @@ const COLUMN: usize = 24;
 // Spaces up to a column.
 fn put_pad(out: &mut [u8], start: usize, column: usize) -> usize {
     let mut end = start;
-    let mut i = start;
-    while i < column {
+    for _ in start..column {
         end = text::put_byte(out, end, text::SPACE);
-        i += 1;
     }
     end
 }
@@ -30,27 +28,18 @@ fn put_all(
     old: &[u32],
     new: &[u32],
 ) -> usize {
-    let n = after.n as usize;
     let mut end = start;
-    let mut i: usize = 0;
-    while i < 32 {
-        if n <= i {
-            return end;
-        }
-        let x = i as u8;
-        let was = before.threads[i];
-        let is = after.threads[i];
+    for (x, (was, is)) in (0..after.n).zip(before.threads.iter().zip(&after.threads)) {
         let told = speaking::put_changes(
             out,
             end,
             x,
-            was,
-            is,
+            *was,
+            *is,
             first_words(old, x, WORD_LIMIT),
             first_words(new, x, WORD_LIMIT),
         );
         end = told.end;
-        i += 1;
     }
     end
 }
@@ -72,10 +61,7 @@ pub fn print_spoken<W: Write>(
     let column = put_pad(out, called, COLUMN);
     let changed = put_all(out, column, before, after, old, new);
     // Where nothing changed, the line ends with the answer.
-    let mut end = called;
-    if column < changed {
-        end = changed;
-    }
+    let end = if column < changed { changed } else { called };
     print_line(output, out, end)
 }
 
