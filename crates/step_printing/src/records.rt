@@ -1,12 +1,11 @@
 // The loop over the records.
 ghost use Rattle.std.specs.Prelude.{◌≡◌, ◌≤◌, ◌<◌, length};
 ghost use Rattle.model.specs.RecordBytes.{longest_record};
-ghost use Rattle.record_input.specs.Places.{Within};
 
 use crate::lines::print_thread;
 use crate::{answers, entries, spoken};
 use model::{Answer, Record, Returned, Table};
-use record_input::{LAST_BYTE, Span, next_record, nothing_read, print_bad};
+use record_input::{Found, LAST_BYTE, Next, Records, print_bad};
 use std::io;
 use std::io::{Read, Write};
 
@@ -112,38 +111,32 @@ fn follow_last<W: Write>(output: &mut W, mode: Mode) -> io::Result<()> {
     }
 }
 
-// Follows the records after the first, which has so many bytes and stood before a slice of the buffer.
+// Follows the records after the first, which has so many bytes.
 fn follow_rest<R: Read, W: Write>(
     input: &mut R,
     output: &mut W,
-    buffer: &mut [u8],
+    records: &mut Records,
     size: usize,
-    rest: Span,
     made: Table,
     store: &mut [u32],
     mode: Mode,
 ) -> io::Result<()>
-    requires within { Within (length buffer.old) rest }
-    requires size_nonzero { (0 < size) × (size ≤ longest_record) }
+    requires { (0 < size) × (size ≤ longest_record) }
 {
     let mut table = made;
-    let mut left = rest;
     let mut place: u64 = 1;
     let mut byte = size as u64;
+    // Kept: no `for` counts it, for each turn goes on by a record's length.
     while byte < LAST_BYTE {
-        let next = next_record(input, buffer, left, false)?;
-        if next.over {
-            return follow_last(output, mode);
+        match records.next_record(input, false)? {
+            Next::Over => return follow_last(output, mode),
+            Next::Refused(number) => return print_bad(output, number, byte),
+            Next::Found(found) => {
+                table = follow_record(output, place, found.item, table, store, mode)?;
+                byte += found.length as u64;
+                place += 1;
+            }
         }
-        let length = next.length;
-        if length == 0 {
-            return print_bad(output, next.refusal, byte);
-        }
-        let item = next.item;
-        table = follow_record(output, place, item, table, store, mode)?;
-        left = next.left;
-        byte += length as u64;
-        place += 1;
     }
     Ok(())
 }
@@ -155,34 +148,43 @@ fn zero_store() -> [u32; 256]
     [0; 256]
 }
 
-// Follows the schedule that an input delivers, to its end or to a record that is refused, and prints what the mode says.
-pub fn follow<R: Read, W: Write>(input: &mut R, output: &mut W, mode: Mode) -> io::Result<()> {
-    let mut space = [0u8; 65536];
-    let buffer: &mut [u8] = &mut space;
-    let before = nothing_read(buffer);
-    let first = next_record(input, buffer, before, true)?;
-    let length = first.length;
-    if length == 0 {
-        return print_bad(output, first.refusal, 0);
-    }
+// Follows a schedule from its table record on.
+fn follow_from<R: Read, W: Write>(
+    input: &mut R,
+    output: &mut W,
+    records: &mut Records,
+    first: Found,
+    mode: Mode,
+) -> io::Result<()>
+    requires { (0 < first.length) × (first.length ≤ longest_record) }
+{
     let made = engine::make(first.item.thread);
-    let answer = made.answer;
-    if let Answer::Refused(number) = answer {
+    if let Answer::Refused(number) = made.answer {
         return print_bad(output, number, 0);
     }
     let table = made.table;
-    let words = 8 * (table.n as usize);
+    let words = 8 * usize::from(table.n);
     let mut store = zero_store();
     follow_first(output, first.item, table, &store[0..words], mode)?;
-    let rest = first.left;
     follow_rest(
         input,
         output,
-        buffer,
-        length,
-        rest,
+        records,
+        first.length,
         table,
         &mut store[0..words],
         mode,
     )
+}
+
+// Follows the schedule that an input delivers, to its end or to a record that is refused, and prints what the mode says.
+pub fn follow<R: Read, W: Write>(input: &mut R, output: &mut W, mode: Mode) -> io::Result<()> {
+    let mut space = [0u8; 65536];
+    let mut records = Records::new(&mut space);
+    match records.next_record(input, true)? {
+        // A schedule has a first record.
+        Next::Over => unreachable!(),
+        Next::Refused(number) => print_bad(output, number, 0),
+        Next::Found(first) => follow_from(input, output, &mut records, first, mode),
+    }
 }

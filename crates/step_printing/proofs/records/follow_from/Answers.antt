@@ -1,7 +1,7 @@
 use Rattle.std.proofs.Common.{arith}
 use Rattle.record_input.proofs.Accepted.{accepts-other}
 use Rattle.step_printing.proofs.Accepted.{made-size}
-use Rattle.step_printing.proofs.records.follow.Goals as goal
+use Rattle.step_printing.proofs.records.follow_from.Goals as goal
 
 -- a table that was made has at most 32 threads
 pub slice_bounds-follow_first-end : goal.slice_bounds-follow_first-end
