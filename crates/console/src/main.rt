@@ -4,7 +4,6 @@
 #![tactic(auto)]
 
 mod missing;
-mod same;
 mod talking;
 mod watching;
 
@@ -54,15 +53,13 @@ fn play_scripts<R: Env + Files, I: Read, O: Write, E: Write>(
     errors: &mut E,
 ) -> io::Result<()> {
     let mut word = [0u8; 4096];
-    let mut i: usize = 1;
-    while i < usize::MAX {
+    for i in 1..usize::MAX {
         match rt.arg(i, &mut word) {
             Ok(n) => play(rt, input, output, errors, &word[..n])?,
             // No path is as long, so that it is played as one that no script has.
             Err(FillError::TooLong) => play(rt, input, output, errors, b"")?,
             Err(FillError::NotPresent) => return Ok(()),
         }
-        i += 1;
     }
     Ok(())
 }

@@ -15,7 +15,7 @@ pub fn say_missing<E: Write>(errors: &mut E, name: &[u8], error: Error) -> io::R
     let mut told = Cursor::new([0u8; 256]);
     // words that do not fit are cut
     let _ = write!(told, "{error}");
-    let end = numbers::lesser(told.position() as usize, 256);
+    let end = told.position().min(256) as usize;
     let text = told.into_inner();
     let words = str::from_utf8(&text[..end]).unwrap_or("");
     errors.write_all(name)?;

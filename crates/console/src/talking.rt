@@ -4,11 +4,9 @@ ghost use Rattle.commands.specs.Standing.{line_room};
 
 use crate::watching;
 use dialogue::Session;
+use line_input::Lines;
 use std::io;
 use std::io::{Read, Write};
-
-// So many lines are counted: as many as 64 bits can, which no input comes near.
-const MOST_LINES: u64 = u64::MAX;
 
 // What is kept from one line to the next: the session, and the words that its store is lent from.
 #[derive(Clone, Copy)]
@@ -44,7 +42,7 @@ fn answer_line<W: Write>(
     let mut words = stored;
     let reply = dialogue::respond(session, line, number, numbers, &mut words, entries, out);
     let after = reply.session;
-    let end = numbers::lesser(reply.end, out.len());
+    let end = reply.end.min(out.len());
     output.write_all(&out[0..end])?;
     watching::watch(
         output,
@@ -64,7 +62,6 @@ fn answer_line<W: Write>(
 // Answers the lines that an input delivers, to its end.
 pub fn talk<R: Read, W: Write>(input: &mut R, output: &mut W, watched: bool) -> io::Result<()> {
     let mut space = [0u8; 65536];
-    let buffer: &mut [u8] = &mut space;
     let mut text = [0u8; 65536];
     let out: &mut [u8] = &mut text;
     let mut read = commands::no_numbers();
@@ -72,22 +69,17 @@ pub fn talk<R: Read, W: Write>(input: &mut R, output: &mut W, watched: bool) -> 
     let mut noted = dialogue::no_entries();
     let entries: &mut [u32] = &mut noted;
     let mut standing = at_first();
-    let mut feed = line_input::unread();
-    let mut line: u64 = 0;
-    while line < MOST_LINES {
-        let taken = line_input::fetch_line(input, buffer, feed)?;
-        if !taken.there {
+    let mut lines = Lines::new(&mut space);
+    // As many lines are counted as 64 bits can, which no input comes near.
+    for before in 0..u64::MAX {
+        let Some(line) = lines.fetch_line(input)? else {
             return Ok(());
-        }
-        feed = taken.feed;
-        line += 1;
-        let start = taken.start;
-        let stop = taken.stop;
+        };
         standing = answer_line(
             output,
             standing,
-            &buffer[start..stop],
-            line,
+            lines.text(line),
+            before + 1,
             numbers,
             entries,
             out,

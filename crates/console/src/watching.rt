@@ -1,7 +1,6 @@
 // What a refused line changed, told: nothing, as every public call promises.
-use crate::same::{kept_records, same_store};
 use dialogue::Session;
-use model::Answer;
+use model::{Answer, Outcome};
 use std::io;
 use std::io::Write;
 
@@ -12,9 +11,7 @@ fn is_refusal(answer: &[u8]) -> bool {
         return false;
     }
     let word = scanning::next_word(answer, 0);
-    let start = word.start;
-    let stop = word.end;
-    scanning::is_word(&answer[start..stop], b"refused")
+    scanning::is_word(&answer[word.start..word.end], b"refused")
 }
 
 // Prints a line where something is not as it was.
@@ -25,6 +22,12 @@ fn unless<W: Write>(output: &mut W, kept: bool, line: &[u8]) -> io::Result<()> {
     output.write_all(line)
 }
 
+// Records that are as they were before the report.
+fn kept_records(records: &[Outcome; 40]) -> bool {
+    let before = telling::blank();
+    records.iter().all(|outcome| *outcome == before)
+}
+
 // Compares the table, the store and the records before and after a refused line.
 fn compare<W: Write>(
     output: &mut W,
@@ -33,15 +36,11 @@ fn compare<W: Write>(
     after: Session,
     store: &[u32; 320],
 ) -> io::Result<()> {
-    let old = before.table;
-    let new = after.table;
-    unless(output, old == new, b"changed: table\n")?;
-    unless(output, same_store(stored, store), b"changed: store\n")?;
-    let filled = telling::report_to(new, after.records);
-    let answer = filled.answer;
-    let records = filled.records;
-    if let Answer::Refused(_) = answer {
-        return unless(output, kept_records(records), b"changed: records\n");
+    unless(output, before.table == after.table, b"changed: table\n")?;
+    unless(output, stored == store, b"changed: store\n")?;
+    let filled = telling::report_to(after.table, after.records);
+    if let Answer::Refused(_) = filled.answer {
+        return unless(output, kept_records(&filled.records), b"changed: records\n");
     }
     Ok(())
 }

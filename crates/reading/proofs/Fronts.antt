@@ -5,10 +5,12 @@ use mathlib.Core.Bool.{Bool, true, false, beq, ◌&&◌, ◌||◌, and-true, and
 use mathlib.Core.List.{List, [], ◌∷◌}
 use Prim.Native.Nat.{ℕ, ◌+◌, ◌*◌, ◌≤◌, ◌<◌}
 use native.Mathlib.Omega.{arith}
-use lib.ListN.{length}
+use lib.ListN.{length, take}
 use lib.Seq.{length-take-le, take_all}
+use Rattle.std.proofs.lemmas.List.{get_or-take}
 use lib.Dec.{eqb, leb, ltb}
 use borrow.Author.Tests.{ltb-true, eqb-true, eq-eqb, ne_eqb, le-leb, lt-leb, leb-true, leb-false}
+use Rattle.model.specs.declared.Receive.{Receive}
 use Rattle.model.specs.Lists.{implies, all_of}
 use Rattle.model.specs.RecordBytes.{table_kind, begin_kind, set_kind, is_begin, record_length, byte, kind_byte, count_byte, word_at, set_word, lawful_begin, lawful_set, lawful}
 use Rattle.model.specs.Decoding.{operation_of, set_operation_of, operation_by, front}
@@ -80,6 +82,28 @@ module _ (bytes : List ℕ) where
       (λ e. let long = record_set (kind_byte bytes) e in
       rw (e, set-operation-alike (front bytes) bytes (long-front (omega arith)) (word-alike (front bytes) bytes 8 (λ i l. front-byte bytes i (omega arith)))) refl)
       (λ d e. rw (ne_eqb _ _ d, ne_eqb _ _ e) refl)
+
+  -- the first 42 bytes are the bytes of a begin
+  first-bytes : Alike (take 42 bytes) bytes
+  first-bytes i l = get_or-take 42 bytes i 0 l
+
+  -- lawful as the bytes are
+  pub first-begin : lawful_begin (take 42 bytes) ≡ lawful_begin bytes
+  first-begin = begin-alike (take 42 bytes) bytes first-bytes
+
+  pub first-set : lawful_set (take 42 bytes) ≡ lawful_set bytes
+  first-set = set-alike (take 42 bytes) bytes first-bytes
+
+  -- with the same operation; with a set it is in the first 46
+  pub first-operation : operation_of (take 42 bytes) ≡ operation_of bytes
+  first-operation = operation-alike (take 42 bytes) bytes first-bytes
+
+  first-set_operation : set_operation_of (take 46 bytes) ≡ set_operation_of bytes
+  first-set_operation = set-operation-alike (take 46 bytes) bytes (λ i l. get_or-take 46 bytes i 0 (omega arith)) (word-alike (take 46 bytes) bytes 8 (λ i l. get_or-take 46 bytes i 0 (omega arith)))
+
+-- so is the receive part that is read from there
+pub first-receive : (bytes first : List ℕ) (r : Receive) → first ≡ take 46 bytes → r ≡ (set_operation_of first).receive → r ≡ (set_operation_of bytes).receive
+first-receive bytes first r e read = read ∙ rw (e, first-set_operation bytes) refl
 
 -- ---- what is lawful
 -- the tests of lawful bytes in another order

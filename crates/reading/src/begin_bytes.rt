@@ -4,13 +4,16 @@ ghost use Rattle.model.specs.Lists.{all_below, up_to};
 ghost use Rattle.model.specs.RecordBytes.{word_at, send_bit, receive_bit, open_bit, lawful_begin, lawful_set};
 ghost use Rattle.model.specs.Decoding.{receive_of, operation_of, set_operation_of};
 
-use crate::{COUNT, FIRST_WORD, PARTNER, PARTS, RECEIVE_TIME, SEND_TIME, TARGET};
+use crate::{
+    BEGIN_BYTES, COUNT, FIRST_WORD, PARTNER, PARTS, RECEIVE_TIME, SEND_TIME, SET_BYTES, TARGET,
+};
 use model::{Receive, SendPart, Wait};
 
 // The parts byte of an operation with every part.
 const ALL_PARTS: u8 = 7;
 
 // The parts byte has a send part.
+#[tactic(auto, unfolding(model::specs::RecordBytes::send_bit))]
 fn send_bit(parts: u8) -> bool
     ensures { result ≡ send_bit parts }
 {
@@ -18,6 +21,7 @@ fn send_bit(parts: u8) -> bool
 }
 
 // The parts byte has a receive part.
+#[tactic(auto, unfolding(model::specs::RecordBytes::receive_bit))]
 fn receive_bit(parts: u8) -> bool
     ensures { result ≡ receive_bit parts }
 {
@@ -25,17 +29,11 @@ fn receive_bit(parts: u8) -> bool
 }
 
 // The parts byte says that the receive part is open.
+#[tactic(auto, unfolding(model::specs::RecordBytes::open_bit))]
 fn open_bit(parts: u8) -> bool
     ensures { result ≡ open_bit parts }
 {
     parts / 4 % 2 == 1
-}
-
-// A byte as wide as a word.
-fn wide(b: u8) -> u32
-    ensures { (result ≡ b) × (result < 256) }
-{
-    b as u32
 }
 
 // Word i of a begin, low byte first.
@@ -43,31 +41,24 @@ fn word_at(bytes: &[u8], i: usize) -> u32
     requires { 10 + 4 * i + 4 ≤ length bytes.now }
     ensures { result ≡ word_at bytes.now i }
 {
-    let start = FIRST_WORD + 4 * i;
-    wide(bytes[start])
-        + 256 * wide(bytes[start + 1])
-        + 65536 * wide(bytes[start + 2])
-        + 16777216 * wide(bytes[start + 3])
+    let at = FIRST_WORD + 4 * i;
+    u32::from_le_bytes([bytes[at], bytes[at + 1], bytes[at + 2], bytes[at + 3]])
 }
 
 // The words past the count are 0.
-fn no_word_past(bytes: &[u8], count: u8) -> bool
-    requires { 42 ≤ length bytes.now }
+fn no_word_past(bytes: &[u8; BEGIN_BYTES], count: u8) -> bool
     ensures { result ≡ all_below 8 (λ i. ltb i count || eqb (word_at bytes.now i) 0) }
 {
-    let mut i = count as usize;
-    while i < 8 {
+    for i in usize::from(count)..8 {
         if word_at(bytes, i) != 0 {
             return false;
         }
-        i += 1;
     }
     true
 }
 
 // The rules of a begin.
-pub fn lawful_begin(bytes: &[u8]) -> bool
-    requires { 42 ≤ length bytes.now }
+pub fn lawful_begin(bytes: &[u8; BEGIN_BYTES]) -> bool
     ensures { result ≡ lawful_begin bytes.now }
 {
     let parts = bytes[PARTS];
@@ -83,8 +74,7 @@ pub fn lawful_begin(bytes: &[u8]) -> bool
 }
 
 // The rules of a begin with a set.
-pub fn lawful_set(bytes: &[u8]) -> bool
-    requires { 42 ≤ length bytes.now }
+pub fn lawful_set(bytes: &[u8; BEGIN_BYTES]) -> bool
     ensures { result ≡ lawful_set bytes.now }
 {
     let parts = bytes[PARTS];
@@ -92,22 +82,19 @@ pub fn lawful_set(bytes: &[u8]) -> bool
 }
 
 // The eight words of a begin.
-fn words_at(bytes: &[u8]) -> [u32; 8]
-    requires { 42 ≤ length bytes.now }
+fn words_at(bytes: &[u8; BEGIN_BYTES]) -> [u32; 8]
     ensures { result ≡ up_to 8 (word_at bytes.now) }
 {
     let mut words = [0u32; 8];
-    let mut i: usize = 0;
-    while i < 8 {
+    for i in 0..8 {
         words[i] = word_at(bytes, i);
-        i += 1;
     }
     words
 }
 
 // The send part of a begin.
-pub fn send_at(bytes: &[u8]) -> SendPart
-    requires { 42 ≤ length bytes.now }
+#[tactic(auto, unfolding(model::specs::Decoding::operation_of))]
+pub fn send_at(bytes: &[u8; BEGIN_BYTES]) -> SendPart
     ensures { result ≡ (operation_of bytes.now).send }
 {
     let words = words_at(bytes);
@@ -121,8 +108,7 @@ pub fn send_at(bytes: &[u8]) -> SendPart
 }
 
 // The receive part of a begin.
-pub fn receive_at(bytes: &[u8]) -> Receive
-    requires { 42 ≤ length bytes.now }
+pub fn receive_at(bytes: &[u8; BEGIN_BYTES]) -> Receive
     ensures { result ≡ receive_of bytes.now }
 {
     let parts = bytes[PARTS];
@@ -140,8 +126,8 @@ pub fn receive_at(bytes: &[u8]) -> Receive
 }
 
 // The receive part of a begin with a set, which is its ninth word.
-pub fn set_at(bytes: &[u8]) -> Receive
-    requires { 46 ≤ length bytes.now }
+#[tactic(auto, unfolding(model::specs::Decoding::set_operation_of))]
+pub fn set_at(bytes: &[u8; SET_BYTES]) -> Receive
     ensures { result ≡ (set_operation_of bytes.now).receive }
 {
     let time = bytes[RECEIVE_TIME];

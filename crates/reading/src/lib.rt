@@ -4,7 +4,7 @@
 
 mod begin_bytes;
 
-ghost use Rattle.std.specs.Prelude.{◌≡◌, true, ◌≤◌, length};
+ghost use Rattle.std.specs.Prelude.{◌≡◌, true, ◌≤◌, length, take};
 ghost use Rattle.model.specs.Threads.{no_operation};
 ghost use Rattle.model.specs.RecordBytes.{is_begin, record_length, kind_byte, lawful};
 ghost use Rattle.model.specs.Decoding.{operation_by, front, DecodePromise};
@@ -82,23 +82,31 @@ pub const SET_WORD: usize = 42;
 pub const BAD_RECORD: u8 = 12;
 
 // How many bytes a record of a kind has.
+#[tactic(auto, unfolding(model::specs::RecordBytes::record_length))]
 pub fn record_length(kind: u8) -> usize
     ensures { result ≡ record_length kind }
 {
-    if kind == BEGIN {
-        return BEGIN_BYTES;
+    match kind {
+        BEGIN => BEGIN_BYTES,
+        SET => SET_BYTES,
+        _ => HEAD_BYTES,
     }
-    if kind == SET {
-        return SET_BYTES;
-    }
-    HEAD_BYTES
 }
 
 // A record of this kind is a begin, with a set or without.
+#[tactic(auto, unfolding(model::specs::RecordBytes::is_begin))]
 pub fn is_begin(kind: u8) -> bool
     ensures { result ≡ is_begin kind }
 {
     (kind == BEGIN) | (kind == SET)
+}
+
+// The first N bytes, of which there are as many.
+fn first_of<const N: usize>(bytes: &[u8]) -> &[u8; N]
+    requires { N ≤ length bytes.now }
+    ensures { result.now ≡ take N bytes.now }
+{
+    bytes.first_chunk().unwrap()
 }
 
 // The rules of every record that its first four bytes decide.
@@ -131,7 +139,8 @@ pub fn is_lawful(first: bool, bytes: &[u8]) -> bool
     if bytes.len() < record_length(kind) {
         return false;
     }
-    begin_bytes::lawful_begin(bytes) & ((kind == BEGIN) | begin_bytes::lawful_set(bytes))
+    let begin = first_of(bytes);
+    begin_bytes::lawful_begin(begin) & ((kind == BEGIN) | begin_bytes::lawful_set(begin))
 }
 
 // The operation of a begin, by its kind.
@@ -140,19 +149,14 @@ pub fn operation_at(bytes: &[u8]) -> Operation
     requires bytes_in_bounds { record_length (kind_byte bytes.now) ≤ length bytes.now }
     ensures { result ≡ operation_by (kind_byte bytes.now) bytes.now }
 {
-    let send = begin_bytes::send_at(bytes);
+    let begin = first_of(bytes);
+    let send = begin_bytes::send_at(begin);
     if bytes[KIND] == BEGIN {
-        let receive = begin_bytes::receive_at(bytes);
-        return Operation {
-            send: send,
-            receive: receive,
-        };
+        let receive = begin_bytes::receive_at(begin);
+        return Operation { send, receive };
     }
-    let receive = begin_bytes::set_at(bytes);
-    Operation {
-        send: send,
-        receive: receive,
-    }
+    let receive = begin_bytes::set_at(first_of(bytes));
+    Operation { send, receive }
 }
 
 // A record without an operation.

@@ -2,11 +2,10 @@
 
 #![tactic(auto)]
 
-ghost use Rattle.std.specs.Prelude.{◌≡◌, ◌≤◌, length, IfOk, OnErr};
+ghost use Rattle.std.specs.Prelude.{◌≡◌, ◌+◌, ◌-◌, ◌≤◌, ◌<◌, length, take, drop, slice_range, IfOk, OnErr, MatchResult};
 ghost use Rattle.model.specs.RecordBytes.{longest_record};
-ghost use Rattle.model.specs.Decoding.{decode};
-ghost use Rattle.refill.specs.Refilled.{MovedDown};
-ghost use Rattle.record_input.specs.Places.{Within, Places};
+ghost use Rattle.model.specs.Answers.{refused};
+ghost use Rattle.model.specs.Decoding.{decode, decode_answer};
 
 use model::{Answer, Record};
 use reading::LONGEST;
@@ -16,123 +15,126 @@ use std::io::{Read, Write};
 // No schedule is followed past this byte, so that the count of bytes cannot overflow.
 pub const LAST_BYTE: u64 = u64::MAX - LONGEST as u64;
 
-// A slice of the buffer: the bytes from start to end.
-#[derive(Clone, Copy)]
-pub struct Span {
-    pub start: usize,
-    pub end: usize,
-}
-
-// The next record: whether the schedule ended before it; the record, where its bytes start and how many they are; refused, none, and the number; and the
-// bytes behind it.
-#[derive(Clone, Copy)]
-pub struct Next {
-    pub over: bool,
+// A record, where its bytes start in the buffer, and how many they are.
+#[derive(Clone, Copy, PartialEq, Eq)]
+pub struct Found {
     pub item: Record,
     pub start: usize,
     pub length: usize,
-    pub refusal: u8,
-    pub left: Span,
 }
 
-// A record, and how many bytes it has; refused, none, and the number.
-#[derive(Clone, Copy)]
-struct Taken {
-    item: Record,
-    length: usize,
-    refusal: u8,
+// What comes next in a schedule: its end, a record, or one that is refused, with the number.
+#[derive(Clone, Copy, PartialEq, Eq)]
+pub enum Next {
+    Over,
+    Found(Found),
+    Refused(u8),
 }
 
-// Nothing is read yet: of a buffer that is used up, nothing is left.
-pub fn nothing_read(buffer: &[u8]) -> Span
-    ensures { Within (length buffer.now) result }
-{
-    Span {
-        start: buffer.len(),
-        end: buffer.len(),
-    }
+// A schedule that is read through a buffer: the bytes from start to end are read, and not used yet.
+#[derive(Drop)]
+pub struct Records<'a> {
+    pub buffer: &'a mut [u8],
+    pub start: usize,
+    pub end: usize,
+    ghost ordered: { start ≤ end },
+    ghost within: { end ≤ length buffer.now },
 }
 
-// The bytes not yet used, after more are read where the buffer's end may cut a record.
-fn unread<R: Read>(input: &mut R, buffer: &mut [u8], left: Span) -> io::Result<Span>
-    requires { Within (length buffer.old) left }
-    ensures buffer_len_unchanged { length buffer.new ≡ length buffer.old }
-    ensures within { IfOk result (λ span. Within (length buffer.new) span) }
-    ensures err { OnErr result (MovedDown left.start left.end buffer.old buffer.new) }
-{
-    let start = left.start;
-    let end = left.end;
-    if LONGEST <= end - start {
-        return Ok(left);
-    }
-    // Only the input's end leaves room in the buffer.
-    if end < buffer.len() {
-        return Ok(left);
-    }
-    let filled = refill::refill(input, buffer, start, end)?;
-    Ok(Span {
-        start: 0,
-        end: filled,
-    })
-}
-
-// Reads the record at the front of the bytes, told whether it is the first.
-fn take(first: bool, bytes: &[u8]) -> Taken
-    ensures length_in_bounds { result.length ≤ length bytes.now }
-    ensures length_le_longest_record { result.length ≤ longest_record }
-    ensures item_value { result.item ≡ decode first bytes.now }
+// Reads the record at the front of the bytes, told whether it is the first; answers too how many bytes it has.
+fn take_front(first: bool, bytes: &[u8]) -> Result<(Record, usize), u8>
+    ensures { MatchResult result
+        (λ p. (p.0 ≡ decode first bytes.now) × (0 < p.1) × (p.1 ≤ length bytes.now) × (p.1 ≤ longest_record))
+        (λ n. refused n ≡ decode_answer first bytes.now) }
 {
     let decoded = reading::read(first, bytes);
-    let answer = decoded.answer;
-    let item = decoded.item;
-    if let Answer::Refused(number) = answer {
-        return Taken {
-            item: item,
-            length: 0,
-            refusal: number,
-        };
+    if let Answer::Refused(number) = decoded.answer {
+        return Err(number);
     }
-    let length = reading::record_length(item.kind);
-    Taken {
-        item: item,
-        length: length,
-        refusal: 0,
+    Ok((decoded.item, reading::record_length(decoded.item.kind)))
+}
+
+impl<'a> Records<'a> {
+    ghost use Rattle.refill.specs.Refilled.{MovedDown};
+    ghost use Rattle.record_input.specs.Places.{Comes};
+
+    // Nothing is read yet: of a buffer that is used up, nothing is left.
+    pub fn new(buffer: &'a mut [u8]) -> Records<'a>
+        ensures same_buffer { result.buffer.ghost_name ≡ buffer.entry.ghost_name }
+        ensures same_bytes { result.buffer.now ≡ buffer.old }
+    {
+        let end = buffer.len();
+        Records {
+            buffer,
+            start: end,
+            end,
+        }
+    }
+
+    // The bytes of a record that was found.
+    pub fn bytes(&self, found: Found) -> &[u8]
+        requires { found.start + found.length ≤ length self.now.buffer.now }
+        ensures { result.now ≡ slice_range self.now.buffer.now found.start (found.start + found.length) }
+    {
+        &self.buffer[found.start..found.start + found.length]
+    }
+
+    // Reads more where the buffer's end may cut a record.
+    fn read_on<R: Read>(&mut self, input: &mut R) -> io::Result<()>
+        ensures same_buffer { self.new.buffer.ghost_name ≡ self.old.buffer.ghost_name }
+        ensures same_length { length self.new.buffer.now ≡ length self.old.buffer.now }
+        ensures err { OnErr result (MovedDown self.old.start self.old.end self.old.buffer.now self.new.buffer.now) }
+    {
+        let start = self.start;
+        let end = self.end;
+        // Only the input's end leaves room in the buffer.
+        if (LONGEST <= end - start) | (end < self.buffer.len()) {
+            return Ok(());
+        }
+        let buffer = &mut *self.buffer;
+        let filled = refill::refill(input, buffer, start, end);
+        self.start = 0;
+        self.end = end - start;
+        self.end = filled?;
+        Ok(())
+    }
+
+    // The record at the front of what is not used yet.
+    fn front(&self, first: bool) -> Result<(Record, usize), u8>
+        ensures { let bytes = take (self.now.end - self.now.start) (drop self.now.start self.now.buffer.now) in MatchResult result
+            (λ p. (p.0 ≡ decode first bytes) × (0 < p.1) × (p.1 ≤ self.now.end - self.now.start) × (p.1 ≤ longest_record))
+            (λ n. refused n ≡ decode_answer first bytes) }
+    {
+        take_front(first, &self.buffer[self.start..self.end])
+    }
+
+    // What comes next, told whether it is the first. A schedule has a first record, so it does not end before that.
+    pub fn next_record<R: Read>(&mut self, input: &mut R, first: bool) -> io::Result<Next>
+        ensures same_buffer { self.new.buffer.ghost_name ≡ self.old.buffer.ghost_name }
+        ensures same_length { length self.new.buffer.now ≡ length self.old.buffer.now }
+        ensures comes { IfOk result (Comes first self.new.buffer.now self.new.start self.new.end) }
+        ensures err { OnErr result (MovedDown self.old.start self.old.end self.old.buffer.now self.new.buffer.now) }
+    {
+        self.read_on(input)?;
+        if !first & (self.start == self.end) {
+            return Ok(Next::Over);
+        }
+        match self.front(first) {
+            Ok((item, length)) => {
+                let start = self.start;
+                self.start = start + length;
+                Ok(Next::Found(Found {
+                    item,
+                    start,
+                    length,
+                }))
+            }
+            Err(number) => Ok(Next::Refused(number)),
+        }
     }
 }
 
-// The next record, told whether it is the first. A schedule has a first record, so it does not end before that.
-pub fn next_record<R: Read>(
-    input: &mut R,
-    buffer: &mut [u8],
-    before: Span,
-    first: bool,
-) -> io::Result<Next>
-    requires { Within (length buffer.old) before }
-    ensures buffer_len_unchanged { length buffer.new ≡ length buffer.old }
-    ensures places { IfOk result (λ next. Places first buffer.new next) }
-    ensures err { OnErr result (MovedDown before.start before.end buffer.old buffer.new) }
-{
-    let rest = unread(input, buffer, before)?;
-    let start = rest.start;
-    let end = rest.end;
-    let taken = take(first, &buffer[start..end]);
-    let item = taken.item;
-    let length = taken.length;
-    let left = Span {
-        start: start + length,
-        end: end,
-    };
-    Ok(Next {
-        over: !first & (start == end),
-        item: item,
-        start: start,
-        length: length,
-        refusal: taken.refusal,
-        left: left,
-    })
-}
-
-// Prints the line of a schedule that is refused: the number, and the byte where the refused record starts.
+// Prints the line of A schedule that is refused: the number, and the byte where the refused record starts.
 pub fn print_bad<W: Write>(output: &mut W, number: u8, byte: u64) -> io::Result<()> {
     let mut line = [0u8; 4096];
     let end = printing::bad_line(number, byte, &mut line);

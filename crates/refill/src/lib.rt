@@ -21,17 +21,14 @@ pub fn move_down(buffer: &mut [u8], start: usize, n: usize)
     ensures buffer_len_unchanged { length buffer.new ≡ length buffer.old }
     ensures buffer_after { take n buffer.new ≡ take n (drop start buffer.old) }
 {
-    let mut i: usize = 0;
-    while i < n {
-        buffer[i] = buffer[start + i];
-        i += 1;
-    }
+    buffer.copy_within(start..start + n, 0);
 }
 
 // Reads until the buffer is full or the input ends; answers how many bytes it put at the buffer's front.
 fn read_full<R: Read>(input: &mut R, buffer: &mut [u8]) -> io::Result<usize>
     ensures { IfOk result (λ read. IsPrefixLen read buffer.new) }
 {
+    // Kept: no `for` counts it, for each turn goes on by what a read gave.
     let mut done: usize = 0;
     while done < buffer.len() {
         let n = input.read(&mut buffer[done..])?;

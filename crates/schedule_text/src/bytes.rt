@@ -10,7 +10,7 @@ ghost use Rattle.schedule_text.specs.Steps.{step_of};
 
 use crate::asked::{how_many, kind_asked, record_at};
 use commands::{NOTHING, TICK_ROW, command, no_numbers};
-use line_input::fetch_line;
+use line_input::Lines;
 use model::{Answer, Operation, Record};
 use reading::{LONGEST, record_length};
 use replies::{NOT_RECORD, TABLE_FIRST, put_error};
@@ -154,22 +154,17 @@ fn write_lines<R: Read, W: Write, E: Write>(
     requires line_room_in_bounds { line_room ≤ length numbers.old }
     requires longest_record_in_bounds { longest_record ≤ length out.old }
 {
-    let mut feed = line_input::unread();
+    let mut lines = Lines::new(buffer);
     let mut first = true;
-    let mut n: u64 = 0;
-    while n < u64::MAX {
-        let taken = fetch_line(input, buffer, feed)?;
-        if !taken.there {
+    for before in 0..u64::MAX {
+        let Some(line) = lines.fetch_line(input)? else {
             return Ok(());
-        }
-        n += 1;
-        let start = taken.start;
-        let stop = taken.stop;
-        let step = write_line(output, errors, n, &buffer[start..stop], first, numbers, out)?;
+        };
+        let text = lines.text(line);
+        let step = write_line(output, errors, before + 1, text, first, numbers, out)?;
         if !step.good {
             return Ok(());
         }
-        feed = taken.feed;
         first = step.first;
     }
     Ok(())

@@ -5,7 +5,7 @@ ghost use Rattle.spelling.specs.Lengths.{longest_line};
 ghost use Rattle.text.specs.Writing.{Printed};
 
 use model::Record;
-use record_input::{LAST_BYTE, next_record, nothing_read, print_bad};
+use record_input::{LAST_BYTE, Next, Records, print_bad};
 use record_text::put_record;
 use std::io;
 use std::io::{Read, Write};
@@ -31,22 +31,18 @@ fn print_line<W: Write>(output: &mut W, item: Record) -> io::Result<()> {
 // Prints the lines of the records that an input delivers, up to the end, or to one that is unlawful or cut short: that is told.
 pub fn print_text<R: Read, W: Write>(input: &mut R, output: &mut W) -> io::Result<()> {
     let mut space = [0u8; 65536];
-    let buffer: &mut [u8] = &mut space;
-    let mut left = nothing_read(buffer);
+    let mut records = Records::new(&mut space);
     let mut byte: u64 = 0;
+    // Kept: no `for` counts it, for each turn goes on by a record's length.
     while byte < LAST_BYTE {
-        let next = next_record(input, buffer, left, byte == 0)?;
-        if next.over {
-            return Ok(());
+        match records.next_record(input, byte == 0)? {
+            Next::Over => return Ok(()),
+            Next::Refused(number) => return print_bad(output, number, byte),
+            Next::Found(found) => {
+                print_line(output, found.item)?;
+                byte += found.length as u64;
+            }
         }
-        let length = next.length;
-        if length == 0 {
-            return print_bad(output, next.refusal, byte);
-        }
-        let item = next.item;
-        print_line(output, item)?;
-        left = next.left;
-        byte += length as u64;
     }
     Ok(())
 }

@@ -33,8 +33,7 @@ fn print_sent<W: Write>(output: &mut W, x: u8, send: SendPart) -> io::Result<()>
 
 // Prints what a thread received.
 fn print_received<W: Write>(output: &mut W, table: Table, x: u8, store: &[u32]) -> io::Result<()> {
-    let answer = outcomes::outcome_answer(table, x, store);
-    if let Ok(outcome) = answer {
+    if let Ok(outcome) = outcomes::outcome_answer(table, x, store) {
         let words = outcomes::outcome_words(table, x, store);
         return print_entry(output, b"received ", x, outcome.source, words);
     }
@@ -57,15 +56,12 @@ pub fn print_rendezvous<W: Write>(
         return Ok(());
     }
     let x = item.thread;
-    let i = x as usize;
-    // Never so, for a step of such a thread is refused: no contract here says that, so the test keeps i within the array.
-    if 32 <= i {
+    // Never none, for a step of such a thread is refused: no contract here says that.
+    let Some(own) = before.threads.get(usize::from(x)) else {
         return Ok(());
-    }
-    let own = before.threads[i];
-    if recording::is_rendezvous(own) {
-        let op = own.op;
-        let send = op.send;
+    };
+    if recording::is_rendezvous(*own) {
+        let send = own.op.send;
         print_sent(output, x, send)?;
         return print_received(output, after, send.target, store);
     }

@@ -8,4 +8,4 @@ mod lines;
 mod records;
 mod spoken;
 
-pub use records::{FULL, LOGS, WORDS, follow};
+pub use records::{Mode, follow};

@@ -1,35 +1,26 @@
 // The loop over the records.
 ghost use Rattle.std.specs.Prelude.{◌≡◌, ◌≤◌, ◌<◌, length};
 ghost use Rattle.model.specs.RecordBytes.{longest_record};
-ghost use Rattle.record_input.specs.Places.{Within};
 
 use crate::lines::print_thread;
 use crate::{answers, entries, spoken};
 use model::{Answer, Record, Returned, Table};
-use record_input::{LAST_BYTE, Span, next_record, nothing_read, print_bad};
+use record_input::{Found, LAST_BYTE, Next, Records, print_bad};
 use std::io;
 use std::io::{Read, Write};
 
 // What is printed of a schedule: every field of every thread, what changed, in words, or the logs of two recorders.
-pub const FULL: u8 = 0;
-
-pub const WORDS: u8 = 1;
-
-pub const LOGS: u8 = 2;
+#[derive(Clone, Copy, PartialEq, Eq)]
+pub enum Mode {
+    Full,
+    Words,
+    Logs,
+}
 
 // Prints the lines of all threads.
 fn print_threads<W: Write>(output: &mut W, table: Table, store: &[u32]) -> io::Result<()> {
-    let n = table.n;
-    let mut x: u8 = 0;
-    while x < n {
-        let i = x as usize;
-        // Never so, for a table has at most 32 threads: no contract here says that, so the test keeps i within the array.
-        if 32 <= i {
-            return Ok(());
-        }
-        let thread = table.threads[i];
-        print_thread(output, x, thread, store)?;
-        x += 1;
+    for (x, thread) in (0..table.n).zip(&table.threads) {
+        print_thread(output, x, *thread, store)?;
     }
     Ok(())
 }
@@ -40,13 +31,11 @@ fn call(table: Table, item: Record, store: &mut [u32]) -> Returned {
     if reading::is_begin(kind) {
         return engine::begin(table, item.thread, item.op, store);
     }
-    if kind == reading::STEP {
-        return engine::step(table, item.thread, store);
+    match kind {
+        reading::STEP => engine::step(table, item.thread, store),
+        reading::CANCEL => engine::cancel(table, item.thread),
+        _ => engine::tick(table),
     }
-    if kind == reading::CANCEL {
-        return engine::cancel(table, item.thread);
-    }
-    engine::tick(table)
 }
 
 // The words of a store, in an array of the longest.
@@ -54,12 +43,8 @@ fn words_of(store: &[u32]) -> [u32; 256]
     ensures { 256 ≡ length result }
 {
     let mut words = zero_store();
-    let most = numbers::lesser(store.len(), 256);
-    let mut i: usize = 0;
-    while i < most {
-        words[i] = store[i];
-        i += 1;
-    }
+    let most = store.len().min(256);
+    words[..most].copy_from_slice(&store[..most]);
     words
 }
 
@@ -82,7 +67,7 @@ fn follow_record<W: Write>(
     item: Record,
     table: Table,
     store: &mut [u32],
-    mode: u8,
+    mode: Mode,
 ) -> io::Result<Table>
     ensures { length store.new ≡ length store.old }
 {
@@ -91,9 +76,11 @@ fn follow_record<W: Write>(
     let answer = returned.answer;
     let after = returned.table;
     match mode {
-        WORDS => spoken::print_spoken(output, place, item, answer, table, after, &old, store)?,
-        LOGS => entries::print_rendezvous(output, item, answer, table, after, store)?,
-        _ => print_full(output, place, answer, after, store)?,
+        Mode::Full => print_full(output, place, answer, after, store)?,
+        Mode::Words => spoken::print_spoken(
+            output, place, item, answer, table, after, &old, store,
+        )?,
+        Mode::Logs => entries::print_rendezvous(output, item, answer, table, after, store)?,
     }
     Ok(after)
 }
@@ -104,58 +91,52 @@ fn follow_first<W: Write>(
     item: Record,
     made: Table,
     store: &[u32],
-    mode: u8,
+    mode: Mode,
 ) -> io::Result<()> {
-    if mode == LOGS {
-        return Ok(());
+    match mode {
+        Mode::Full => {
+            answers::print_made(output)?;
+            print_threads(output, made, store)
+        }
+        Mode::Words => spoken::print_made(output, item),
+        Mode::Logs => Ok(()),
     }
-    if mode == WORDS {
-        return spoken::print_made(output, item);
-    }
-    answers::print_made(output)?;
-    print_threads(output, made, store)
 }
 
 // Prints what stands behind the last record: of the logs, that they are compared.
-fn follow_last<W: Write>(output: &mut W, mode: u8) -> io::Result<()> {
-    if mode == LOGS {
-        return entries::print_compare(output);
+fn follow_last<W: Write>(output: &mut W, mode: Mode) -> io::Result<()> {
+    match mode {
+        Mode::Full | Mode::Words => Ok(()),
+        Mode::Logs => entries::print_compare(output),
     }
-    Ok(())
 }
 
-// Follows the records after the first, which has so many bytes and stood before a slice of the buffer.
+// Follows the records after the first, which has so many bytes.
 fn follow_rest<R: Read, W: Write>(
     input: &mut R,
     output: &mut W,
-    buffer: &mut [u8],
+    records: &mut Records,
     size: usize,
-    rest: Span,
     made: Table,
     store: &mut [u32],
-    mode: u8,
+    mode: Mode,
 ) -> io::Result<()>
-    requires within { Within (length buffer.old) rest }
-    requires size_nonzero { (0 < size) × (size ≤ longest_record) }
+    requires { (0 < size) × (size ≤ longest_record) }
 {
     let mut table = made;
-    let mut left = rest;
     let mut place: u64 = 1;
     let mut byte = size as u64;
+    // Kept: no `for` counts it, for each turn goes on by a record's length.
     while byte < LAST_BYTE {
-        let next = next_record(input, buffer, left, false)?;
-        if next.over {
-            return follow_last(output, mode);
+        match records.next_record(input, false)? {
+            Next::Over => return follow_last(output, mode),
+            Next::Refused(number) => return print_bad(output, number, byte),
+            Next::Found(found) => {
+                table = follow_record(output, place, found.item, table, store, mode)?;
+                byte += found.length as u64;
+                place += 1;
+            }
         }
-        let length = next.length;
-        if length == 0 {
-            return print_bad(output, next.refusal, byte);
-        }
-        let item = next.item;
-        table = follow_record(output, place, item, table, store, mode)?;
-        left = next.left;
-        byte += length as u64;
-        place += 1;
     }
     Ok(())
 }
@@ -167,34 +148,43 @@ fn zero_store() -> [u32; 256]
     [0; 256]
 }
 
-// Follows the schedule that an input delivers, to its end or to a record that is refused, and prints what the mode says.
-pub fn follow<R: Read, W: Write>(input: &mut R, output: &mut W, mode: u8) -> io::Result<()> {
-    let mut space = [0u8; 65536];
-    let buffer: &mut [u8] = &mut space;
-    let before = nothing_read(buffer);
-    let first = next_record(input, buffer, before, true)?;
-    let length = first.length;
-    if length == 0 {
-        return print_bad(output, first.refusal, 0);
-    }
+// Follows a schedule from its table record on.
+fn follow_from<R: Read, W: Write>(
+    input: &mut R,
+    output: &mut W,
+    records: &mut Records,
+    first: Found,
+    mode: Mode,
+) -> io::Result<()>
+    requires { (0 < first.length) × (first.length ≤ longest_record) }
+{
     let made = engine::make(first.item.thread);
-    let answer = made.answer;
-    if let Answer::Refused(number) = answer {
+    if let Answer::Refused(number) = made.answer {
         return print_bad(output, number, 0);
     }
     let table = made.table;
-    let words = 8 * (table.n as usize);
+    let words = 8 * usize::from(table.n);
     let mut store = zero_store();
     follow_first(output, first.item, table, &store[0..words], mode)?;
-    let rest = first.left;
     follow_rest(
         input,
         output,
-        buffer,
-        length,
-        rest,
+        records,
+        first.length,
         table,
         &mut store[0..words],
         mode,
     )
+}
+
+// Follows the schedule that an input delivers, to its end or to a record that is refused, and prints what the mode says.
+pub fn follow<R: Read, W: Write>(input: &mut R, output: &mut W, mode: Mode) -> io::Result<()> {
+    let mut space = [0u8; 65536];
+    let mut records = Records::new(&mut space);
+    match records.next_record(input, true)? {
+        // A schedule has a first record.
+        Next::Over => unreachable!(),
+        Next::Refused(number) => print_bad(output, number, 0),
+        Next::Found(first) => follow_from(input, output, &mut records, first, mode),
+    }
 }

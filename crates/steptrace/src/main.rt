@@ -6,27 +6,29 @@
 use scanning::is_word;
 use std::io;
 use std::rt::Env;
+use step_printing::Mode;
 
-// What the argument asks for.
-fn mode_of(word: &[u8]) -> u8 {
+// What a word asks for, if it is one of the two that do.
+fn mode_of(word: &[u8]) -> Option<Mode> {
     if is_word(word, b"words") {
-        return step_printing::WORDS;
+        return Some(Mode::Words);
     }
     if is_word(word, b"logs") {
-        return step_printing::LOGS;
+        return Some(Mode::Logs);
     }
-    step_printing::FULL
+    None
 }
 
-// What the first argument asks for; one that is missing, or too long for any word, as no word does.
-fn mode_asked<R: Env>(rt: &R) -> u8 {
+// What the first argument asks for; none where it is missing, or too long for any word.
+fn mode_asked<R: Env>(rt: &R) -> Option<Mode> {
     let mut argument = [0u8; 4096];
     match rt.arg(1, &mut argument) {
         Ok(n) => mode_of(&argument[..n]),
-        Err(_) => step_printing::FULL,
+        Err(_) => None,
     }
 }
 
 fn main(rt: HostRuntime) -> io::Result<()> {
-    step_printing::follow(&mut rt.stdin(), &mut rt.stdout(), mode_asked(&rt))
+    let mode = mode_asked(&rt).unwrap_or(Mode::Full);
+    step_printing::follow(&mut rt.stdin(), &mut rt.stdout(), mode)
 }

@@ -11,28 +11,24 @@ const NAMES_SET: u8 = 2;
 
 // A number of a case.
 pub fn number(case: &[u8], i: usize) -> u8 {
-    if i < case.len() {
-        return case[i];
-    }
-    0
+    case.get(i).copied().unwrap_or(0)
 }
 
 // A byte of the begin record: a number of the case, or one of its words' bytes, which are 1, 2, 3 and so on, up to its set's.
 fn spelled(case: &[u8], i: u8) -> u8 {
-    let at = i as usize;
+    let at = usize::from(i);
     if at < FIRST_WORD {
         return number(case, at);
     }
-    if at < FIRST_WORD + 4 * (number(case, COUNT) as usize) {
-        return i - 9;
-    }
-    if SET_WORD <= at {
+    let words_end = FIRST_WORD + 4 * usize::from(number(case, COUNT));
+    if (at < words_end) | (SET_WORD <= at) {
         return i - 9;
     }
     0
 }
 
 // The kind of the begin from which the operation of a case is read.
+#[tactic(auto, unfolding(model::specs::RecordBytes::is_begin))]
 fn operation_kind(case: &[u8]) -> u8
     ensures { is_begin result ≡ true }
 {
@@ -43,12 +39,11 @@ fn operation_kind(case: &[u8]) -> u8
 }
 
 // The operation of a case, lawful or not.
+#[tactic(auto, using(laws::proofs::Schedule::record_longest))]
 pub fn operation(case: &[u8]) -> Operation {
     let mut bytes = [0u8; LONGEST];
-    let mut i: usize = 0;
-    while i < LONGEST {
+    for i in 0..LONGEST {
         bytes[i] = spelled(case, i as u8);
-        i += 1;
     }
     bytes[KIND] = operation_kind(case);
     reading::operation_at(&bytes)

@@ -12,46 +12,39 @@ use std::env::FillError;
 use std::io::{ErrorKind, Read, Write};
 use std::rt::{Env, Files};
 use std::{fs, io, str};
+use step_printing::Mode;
 
 // What is done with a schedule: it is played to its end, followed record by record, in full, in words or as two recorders note it, or read back from its text.
-const ENDS: u8 = 0;
+#[derive(Clone, Copy, PartialEq, Eq)]
+enum Task {
+    Play,
+    Follow(Mode),
+    Respell,
+}
 
-const STEPS: u8 = 1;
-
-const WORDS: u8 = 2;
-
-const TEXTS: u8 = 3;
-
-const LOGS: u8 = 4;
-
-// What the name of a schedule says, which is no switch.
-const NO_SWITCH: u8 = 5;
-
-// What a word says is done with the schedules behind it.
-fn switch_of(word: &[u8]) -> u8 {
+// What a word says is done with the schedules behind it; none where it is the name of a schedule.
+fn task_of(word: &[u8]) -> Option<Task> {
     if is_word(word, b"steps") {
-        return STEPS;
+        return Some(Task::Follow(Mode::Full));
     }
     if is_word(word, b"words") {
-        return WORDS;
+        return Some(Task::Follow(Mode::Words));
     }
     if is_word(word, b"texts") {
-        return TEXTS;
+        return Some(Task::Respell);
     }
     if is_word(word, b"logs") {
-        return LOGS;
+        return Some(Task::Follow(Mode::Logs));
     }
-    NO_SWITCH
+    None
 }
 
 // Plays the schedule that an input delivers.
-fn play<I: Read, O: Write>(input: &mut I, output: &mut O, mode: u8) -> io::Result<()> {
-    match mode {
-        ENDS => end_printing::run(input, output),
-        STEPS => step_printing::follow(input, output, step_printing::FULL),
-        WORDS => step_printing::follow(input, output, step_printing::WORDS),
-        LOGS => step_printing::follow(input, output, step_printing::LOGS),
-        _ => texts::respell(input, output),
+fn play<I: Read, O: Write>(input: &mut I, output: &mut O, task: Task) -> io::Result<()> {
+    match task {
+        Task::Play => end_printing::run(input, output),
+        Task::Follow(mode) => step_printing::follow(input, output, mode),
+        Task::Respell => texts::respell(input, output),
     }
 }
 
@@ -64,38 +57,45 @@ fn open_schedule<R: Files>(rt: &R, name: &[u8]) -> io::Result<R::File> {
 }
 
 // Prints the schedule's name and plays it; one that cannot be opened is played as an empty one.
-fn play_named<R: Files, O: Write>(rt: &R, output: &mut O, name: &[u8], mode: u8) -> io::Result<()> {
+fn play_named<R: Files, O: Write>(
+    rt: &R,
+    output: &mut O,
+    name: &[u8],
+    task: Task,
+) -> io::Result<()> {
     output.write_all(name)?;
     output.write_all(b"\n")?;
     match open_schedule(rt, name) {
-        Ok(mut schedule) => play(&mut schedule, output, mode),
-        Err(_) => play(&mut io::empty(), output, mode),
+        Ok(mut schedule) => play(&mut schedule, output, task),
+        Err(_) => play(&mut io::empty(), output, task),
     }
 }
 
 // What a word among the arguments does: it says what is done with those behind it, or names a schedule, which is played. The answer is what is done from here on.
-fn take_word<R: Files, O: Write>(rt: &R, output: &mut O, word: &[u8], mode: u8) -> io::Result<u8> {
-    let switch = switch_of(word);
-    if switch != NO_SWITCH {
-        return Ok(switch);
+fn take_word<R: Files, O: Write>(
+    rt: &R,
+    output: &mut O,
+    word: &[u8],
+    task: Task,
+) -> io::Result<Task> {
+    if let Some(asked) = task_of(word) {
+        return Ok(asked);
     }
-    play_named(rt, output, word, mode)?;
-    Ok(mode)
+    play_named(rt, output, word, task)?;
+    Ok(task)
 }
 
 // Plays the schedules that the arguments name.
 fn play_all<R: Env + Files, O: Write>(rt: &R, output: &mut O) -> io::Result<()> {
     let mut word = [0u8; 4096];
-    let mut mode = ENDS;
-    let mut i: usize = 1;
-    while i < usize::MAX {
+    let mut task = Task::Play;
+    for i in 1..usize::MAX {
         match rt.arg(i, &mut word) {
-            Ok(n) => mode = take_word(rt, output, &word[..n], mode)?,
+            Ok(n) => task = take_word(rt, output, &word[..n], task)?,
             // No path is as long, so that it is played as one that no schedule has.
-            Err(FillError::TooLong) => mode = take_word(rt, output, b"", mode)?,
+            Err(FillError::TooLong) => task = take_word(rt, output, b"", task)?,
             Err(FillError::NotPresent) => return Ok(()),
         }
-        i += 1;
     }
     Ok(())
 }

@@ -1,5 +1,5 @@
 // A schedule through its text and back: the line of each record is read as one record again, which is written as the same bytes.
-use record_input::{LAST_BYTE, next_record, nothing_read};
+use record_input::{LAST_BYTE, Next, Records};
 use schedule_text::respelled;
 use std::io;
 use std::io::{Read, Write};
@@ -20,26 +20,23 @@ fn print_other<W: Write>(output: &mut W, record: u64) -> io::Result<()> {
 // Reads each record of the schedule that an input delivers back from its line, and prints how many are the same.
 pub fn respell<R: Read, W: Write>(input: &mut R, output: &mut W) -> io::Result<()> {
     let mut space = [0u8; 65536];
-    let buffer: &mut [u8] = &mut space;
-    let mut left = nothing_read(buffer);
+    let mut records = Records::new(&mut space);
     let mut byte: u64 = 0;
-    let mut records: u64 = 0;
+    let mut same: u64 = 0;
+    // Kept: no `for` counts it, for each turn goes on by a record's length.
     while byte < LAST_BYTE {
         let first = byte == 0;
-        let next = next_record(input, buffer, left, first)?;
-        let length = next.length;
-        if length == 0 {
-            return print_same(output, records, !next.over);
+        match records.next_record(input, first)? {
+            Next::Over => return print_same(output, same, false),
+            Next::Refused(_) => return print_same(output, same, true),
+            Next::Found(found) => {
+                if !respelled(first, found.item, records.bytes(found)) {
+                    return print_other(output, same);
+                }
+                byte += found.length as u64;
+                same += 1;
+            }
         }
-        let start = next.start;
-        let end = start + length;
-        let item = next.item;
-        if !respelled(first, item, &buffer[start..end]) {
-            return print_other(output, records);
-        }
-        left = next.left;
-        byte += length as u64;
-        records += 1;
     }
     Ok(())
 }

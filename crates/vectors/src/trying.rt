@@ -31,10 +31,8 @@ fn print_number<W: Write>(output: &mut W, n: u8) -> io::Result<()> {
 
 // Prints bytes as numbers.
 fn print_numbers<W: Write>(output: &mut W, bytes: &[u8]) -> io::Result<()> {
-    let mut i: usize = 0;
-    while i < bytes.len() {
-        print_number(output, bytes[i])?;
-        i += 1;
+    for n in bytes {
+        print_number(output, *n)?;
     }
     Ok(())
 }
@@ -101,7 +99,7 @@ fn try_write<W: Write>(output: &mut W, case: &[u8; 10]) -> io::Result<()> {
         op: cases::operation(case),
     };
     let first = cases::number(case, 0) == 1;
-    let lent = numbers::lesser(cases::number(case, 1) as usize, ALL);
+    let lent = usize::from(cases::number(case, 1)).min(ALL);
     let mut bytes = [BYTE; ALL];
     let answer = writing::write(first, item, &mut bytes[0..lent]);
     print_case(output, case, answer)?;
@@ -112,11 +110,8 @@ fn try_write<W: Write>(output: &mut W, case: &[u8; 10]) -> io::Result<()> {
 // Tables of these sizes.
 fn make_tables<W: Write>(output: &mut W) -> io::Result<()> {
     print(output, b"Making a table of N\n")?;
-    let sizes = [0u8, 1, 32, 33, 255];
-    let mut i: usize = 0;
-    while i < 5 {
-        try_make(output, &sizes[i..i + 1])?;
-        i += 1;
+    for size in [0u8, 1, 32, 33, 255] {
+        try_make(output, &[size])?;
     }
     Ok(())
 }
@@ -127,12 +122,8 @@ fn begin_without_send<W: Write>(output: &mut W) -> io::Result<()> {
         output,
         b"\nBegins without a send part: copying, -, kind, thread, parts, target, partner, count, send time, receive time\n",
     )?;
-    let all = cases::without_send();
-    let mut i: usize = 0;
-    while i < 4 {
-        let case = all[i];
-        try_begin(output, &case)?;
-        i += 1;
+    for case in &cases::without_send() {
+        try_begin(output, case)?;
     }
     Ok(())
 }
@@ -143,12 +134,8 @@ fn write_records<W: Write>(output: &mut W) -> io::Result<()> {
         output,
         b"\nRecords written: first, bytes lent, kind, thread, parts, target, partner, count, send time, receive time\n",
     )?;
-    let all = cases::records();
-    let mut i: usize = 0;
-    while i < 27 {
-        let case = all[i];
-        try_write(output, &case)?;
-        i += 1;
+    for case in &cases::records() {
+        try_write(output, case)?;
     }
     Ok(())
 }

@@ -1,4 +1,3 @@
-pub mod Copies
 pub mod Promised
 pub mod Sets
 pub mod Words

@@ -1,22 +1,14 @@
 -- Words put into the bytes of a begin one after the other, low byte first, and a set behind them.
 use mathlib.Core.Path.{◌≡◌, refl, sym, ◌∙◌, subst}
 use mathlib.Core.List.{List, [], ◌∷◌, ◌++◌, map, append-nil, append_assoc}
-use Prim.Native.Nat.{ℕ, zero, suc, ◌+◌, ◌*◌, ◌/◌, ◌%◌, ◌≤◌, ◌<◌}
-use native.Mathlib.Numerals.{add-one, add-two, add-three}
+use Prim.Native.Nat.{ℕ, zero, suc, ◌+◌, ◌*◌, ◌≤◌, ◌<◌}
+use native.Mathlib.Numerals.{add-one}
 use native.Mathlib.Omega.{arith}
 use lib.ListN.{length, get_or, take, drop, set, length-append, take-append-drop, drop_of_length-le, replicate}
-use lib.Seq.{sets-eq, length-take-le, take_all, take_at, drop-append-add, drop-drop}
+use lib.Seq.{length-take-le, take_all, take_at, drop-append-add, drop-drop}
 use Rattle.model.specs.Lists.{concat}
 use Rattle.model.specs.Encoding.{word_bytes}
 use Rattle.laws.proofs.Schedule.{words-length}
-
--- ---- one word
--- four stores put it from a place on
-pub word-put : (word start : ℕ) (l : List ℕ) → start + 4 ≤ length l
-    → set (set (set (set l start (word % 256)) (start + 1) (word / 256 % 256)) (start + 2) (word / 65536 % 256)) (start + 3) (word / 16777216 % 256)
-    ≡ take start l ++ word_bytes word ++ drop (start + 4) l
-unfolding word_bytes
-word-put word start l h = rw (add-one start, add-two start, add-three start) (sets-eq (word % 256 ∷ word / 256 % 256 ∷ word / 65536 % 256 ∷ word / 16777216 % 256 ∷ []) l start h)
 
 -- ---- several
 -- the bytes of words, one after the other

@@ -3,7 +3,7 @@
 #![tactic(auto)]
 
 ghost use Rattle.std.specs.Prelude.{◌≡◌, ◌++◌, map, ◌+◌, ◌≤◌, length, take, drop};
-ghost use Rattle.model.specs.Lists.{bit, concat};
+ghost use Rattle.model.specs.Lists.{concat};
 ghost use Rattle.model.specs.Encoding.{partner_of, word_bytes, set_of, parts_of, all_zero, EncodePromise};
 ghost use Rattle.writing.specs.Spelled.{spelled, fits_kind};
 
@@ -12,16 +12,6 @@ use reading::{
     BAD_RECORD, COUNT, FIRST_MARK, FIRST_WORD, HEAD_BYTES, KIND, LONGEST, PARTNER, PARTS,
     RECEIVE_TIME, SECOND_MARK, SEND_TIME, SET, SET_WORD, TARGET, THREAD,
 };
-
-// 1 for true, 0 for false.
-fn bit_of(b: bool) -> u8
-    ensures { (result ≡ bit b) × (result ≤ 1) }
-{
-    if b {
-        return 1;
-    }
-    0
-}
 
 // The partner that a receive part holds; 0 without one.
 fn partner_of(receive: Receive) -> u8
@@ -51,11 +41,9 @@ fn set_of(receive: Receive) -> u32
 fn parts_of(op: Operation) -> u8
     ensures { result ≡ parts_of op }
 {
-    let send = op.send;
-    let receive = op.receive;
-    bit_of(send.present)
-        + 2 * bit_of(threads::has_receive(receive))
-        + 4 * bit_of(threads::is_open(receive))
+    u8::from(op.send.present)
+        + 2 * u8::from(threads::has_receive(op.receive))
+        + 4 * u8::from(threads::is_open(op.receive))
 }
 
 // A word from a place on, low byte first.
@@ -63,10 +51,7 @@ fn put_word(bytes: &mut [u8], start: usize, word: u32)
     requires { start + 4 ≤ length bytes.old }
     ensures { bytes.new ≡ take start bytes.old ++ word_bytes word ++ drop (start + 4) bytes.old }
 {
-    bytes[start] = (word % 256) as u8;
-    bytes[start + 1] = (word / 256 % 256) as u8;
-    bytes[start + 2] = (word / 65536 % 256) as u8;
-    bytes[start + 3] = (word / 16777216 % 256) as u8;
+    bytes[start..start + 4].copy_from_slice(&word.to_le_bytes());
 }
 
 // The eight words of a begin.
@@ -74,10 +59,8 @@ fn put_words(bytes: &mut [u8], words: [u32; 8])
     requires { 42 ≤ length bytes.old }
     ensures { bytes.new ≡ take 10 bytes.old ++ concat (map word_bytes words) ++ drop 42 bytes.old }
 {
-    let mut i: usize = 0;
-    while i < 8 {
+    for i in 0..8 {
         put_word(bytes, FIRST_WORD + 4 * i, words[i]);
-        i += 1;
     }
 }
 
@@ -110,14 +93,7 @@ fn spell(item: Record) -> [u8; LONGEST]
 fn all_zero(bytes: &[u8]) -> bool
     ensures { result ≡ all_zero bytes.now }
 {
-    let mut i: usize = 0;
-    while i < bytes.len() {
-        if bytes[i] != 0 {
-            return false;
-        }
-        i += 1;
-    }
-    true
+    bytes.iter().all(|b| *b == 0)
 }
 
 // The operation of a record is one of its kind: that of a begin names a set exactly if the kind has one, the bytes of any other are 0.
@@ -136,11 +112,7 @@ fn copy_front(from: &[u8], to: &mut [u8])
     requires { length from.now ≤ length to.old }
     ensures { to.new ≡ from.now ++ drop (length from.now) to.old }
 {
-    let mut i: usize = 0;
-    while i < from.len() {
-        to[i] = from[i];
-        i += 1;
-    }
+    to[..from.len()].copy_from_slice(from);
 }
 
 // The record over the first bytes, which is the first of its schedule or a later one; refused, the bytes are as they were.

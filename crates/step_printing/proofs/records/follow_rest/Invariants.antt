@@ -1,11 +1,9 @@
 use Rattle.std.proofs.Common.{◌≡◌, ◌-◌, ◌≤◌, length}
-use Rattle.record_input.specs.Places.{Within}
 use Rattle.step_printing.proofs.records.follow_rest.Given as goal
 
--- what is left lies in the buffer, no length has changed, and there are no more records than bytes, which a number of the machine counts
+-- the store's length has not changed, and there are no more records than bytes, which a number of the machine counts
 abbrev pub invariant-loop-byte : goal.invariant-loop-byte
-invariant-loop-byte g l =
-    Within (length l.buffer) l.left × (length l.buffer ≡ length l.initial.buffer) × (length l.store ≡ length l.initial.store) × (l.place ≤ l.byte) × (l.byte ≤ 18446744073709551615)
+invariant-loop-byte g l = (length l.store ≡ length l.initial.store) × (l.place ≤ l.byte) × (l.byte ≤ 18446744073709551615)
 
 -- how many bytes can still be counted
 abbrev pub decreases-loop-byte : goal.decreases-loop-byte
