@@ -1,5 +1,5 @@
 -- Laws of the lines of threads, of one line behind the others, and of the whole text.
-use Rattle.std.proofs.Common.{◌≡◌, refl, ap, ℕ, ◌+◌, ◌≤◌, List, [], ◌∷◌, ◌++◌, length, add-one}
+use Rattle.std.proofs.Common.{◌≡◌, refl, ap, ℕ, ◌+◌, ◌≤◌, [], ◌∷◌, ◌++◌, length, add-one}
 use Rattle.std.proofs.Math.ListN.{get_or-eq_default}
 use Rattle.model.specs.Lists.{up_to, concat}
 use Rattle.model.specs.declared.Thread.{Thread}

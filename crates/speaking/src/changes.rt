@@ -130,14 +130,7 @@ fn word_at(words: &[u32], i: usize) -> u32 {
 }
 
 // What changed of thread x, behind what is written already; its words before and after the call are given.
-pub fn put_changes(
-    out: &mut Text,
-    x: u8,
-    before: Thread,
-    after: Thread,
-    old: &[u32],
-    new: &[u32],
-) {
+pub fn put_changes(out: &mut Text, x: u8, before: Thread, after: Thread, old: &[u32], new: &[u32]) {
     let mut changes = Changes {
         line: out,
         x,

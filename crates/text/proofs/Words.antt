@@ -1,6 +1,5 @@
 -- Laws of numbers and words as text: one digit or one word behind the others.
 use Rattle.std.proofs.Common.{◌≡◌, refl, ℕ, ◌+◌, ◌<◌, List, [], ◌∷◌, ◌++◌, length, take, get_or}
-
 use Rattle.std.proofs.lemmas.List.{take_more, map-append}
 use Rattle.model.specs.Lists.{up_to, concat}
 use Rattle.model.specs.Bondtrace.{ascii, decimal, spaced}

@@ -1,4 +1,4 @@
-use Rattle.std.proofs.Common.{rules, arith}
+use Rattle.std.proofs.Common.{rules}
 use Rattle.model.specs.Lists.{up_to}
 use Rattle.model.specs.Bondtrace.{ascii, bad_line}
 use Rattle.text.specs.Texts.{numbers_line}

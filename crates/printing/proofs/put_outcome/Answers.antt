@@ -1,11 +1,7 @@
-use Rattle.std.proofs.Common.{◌≡◌, ◌≤◌, length, rules, arith}
-use mir.Facts.{to_z-of_z, Fits-nat_abs}
+use Rattle.std.proofs.Common.{rules}
+use mir.Facts.{Fits-nat_abs}
 use mir.Val.{SFits}
 use mir.Syntax.{w32}
-use Rattle.model.specs.Lists.{up_to}
-use Rattle.model.specs.Bondtrace.{ascii}
-use Rattle.text.proofs.Writing.{writing}
-use Rattle.printing.specs.Texts.{outcome_text}
 use Rattle.printing.proofs.Bounds.{outcome-short}
 use Rattle.printing.proofs.put_outcome.Goals as goal
 

@@ -11,6 +11,6 @@ pub returns : goal.returns
 unfolding said_text joined_words ascii up_to
 returns c =
     elim c.if-command.branch [
-      then-command w ↦ rw (one_left c.next_word-command.ensures w.if-command.true, c.byte.ensures, w.out-is, w.put_joined.ensures) (simp written_joined)
-    | else-command w ↦ rw (none_left c.next_word-command.ensures w.if-command.false, c.byte.ensures, w.out-is) refl
+      | then-command w ↦ rw (one_left c.next_word-command.ensures w.if-command.true, c.byte.ensures, w.out-is, w.put_joined.ensures) (simp written_joined)
+      | else-command w ↦ rw (none_left c.next_word-command.ensures w.if-command.false, c.byte.ensures, w.out-is) refl
     ]

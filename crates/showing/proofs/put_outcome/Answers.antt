@@ -10,6 +10,6 @@ use Rattle.showing.proofs.put_outcome.Goals as goal
 
 pub returns : goal.returns
 unfolding outcome_text ascii up_to
-returns c = 
+returns c =
     let code : SFits w32 c.args.outcome.code = search rules in
     rw (c.number-2.ensures, c.byte-2.ensures, c.number.ensures, c.byte.ensures, c.signed.ensures, c.bytes.ensures, c.from.ensures, c.from-2.ensures, to_z-of_z code) (simp written_joined)

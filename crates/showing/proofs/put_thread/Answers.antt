@@ -1,4 +1,3 @@
-
 use Rattle.model.specs.Lists.{up_to}
 use Rattle.model.specs.Bondtrace.{ascii}
 use Rattle.text.proofs.Writing.{written_joined}

@@ -25,6 +25,6 @@ returns c =
     let back = to_z-of_z c.ranges.code in
     let size = c.from.ensures ∙ c.unsigned_abs.ensures.value in
     elim c.if-code-lt0.branch [
-      then-code-lt0 w ↦ below _ back size c.number.ensures w.if-code-lt0.true (w.self-is ∙ w.byte.ensures)
-    | else-code-lt0 w ↦ from_zero _ back size c.number.ensures w.if-code-lt0.false w.self-is
+      | then-code-lt0 w ↦ below _ back size c.number.ensures w.if-code-lt0.true (w.self-is ∙ w.byte.ensures)
+      | else-code-lt0 w ↦ from_zero _ back size c.number.ensures w.if-code-lt0.false w.self-is
     ]
