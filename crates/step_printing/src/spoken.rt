@@ -1,6 +1,7 @@
 // One line for a record: which call it was, what it answered, and what it changed of each thread, in words.
 use crate::lines::print_line;
-use model::{Answer, Record, Table};
+use crate::taken::Taken;
+use model::Record;
 use std::io;
 use std::io::Write;
 use text::put_text;
@@ -20,24 +21,18 @@ fn put_pad(out: &mut [u8], start: usize, column: usize) -> usize {
 }
 
 // The changes of all threads.
-fn put_all(
-    out: &mut [u8],
-    start: usize,
-    before: Table,
-    after: Table,
-    old: &[u32],
-    new: &[u32],
-) -> usize {
+fn put_all(out: &mut [u8], start: usize, taken: Taken) -> usize {
     let mut end = start;
-    for (x, (was, is)) in (0..after.n).zip(before.threads.iter().zip(&after.threads)) {
+    let threads = taken.before.threads.iter().zip(&taken.after.threads);
+    for (x, (was, is)) in (0..taken.after.n).zip(threads) {
         let told = speaking::put_changes(
             out,
             end,
             x,
             *was,
             *is,
-            first_words(old, x, WORD_LIMIT),
-            first_words(new, x, WORD_LIMIT),
+            first_words(taken.old, x, WORD_LIMIT),
+            first_words(taken.new, x, WORD_LIMIT),
         );
         end = told.end;
     }
@@ -45,21 +40,12 @@ fn put_all(
 }
 
 // Prints the line of a record.
-pub fn print_spoken<W: Write>(
-    output: &mut W,
-    place: u64,
-    item: Record,
-    answer: Answer,
-    before: Table,
-    after: Table,
-    old: &[u32],
-    new: &[u32],
-) -> io::Result<()> {
+pub fn print_spoken<W: Write>(output: &mut W, taken: Taken) -> io::Result<()> {
     let mut space = [0u8; 65536];
     let out: &mut [u8] = &mut space;
-    let called = speaking::put_call(out, 0, place, item, answer);
+    let called = speaking::put_call(out, 0, taken.place, taken.item, taken.answer);
     let column = put_pad(out, called, COLUMN);
-    let changed = put_all(out, column, before, after, old, new);
+    let changed = put_all(out, column, taken);
     // Where nothing changed, the line ends with the answer.
     let end = if column < changed { changed } else { called };
     print_line(output, out, end)
