@@ -21,6 +21,7 @@ fn play_from<I: Read, O: Write>(input: &mut I, output: &mut O, name: &[u8]) -> i
 }
 
 // Opens the script with this name, which is a path as text.
+// Kept beside its twin in `vectors`: no crate below both opens files, and one for these six lines is no plainer.
 fn open_script<R: Files>(rt: &R, name: &[u8]) -> io::Result<R::File> {
     match str::from_utf8(name) {
         Ok(path) => fs::open(rt, path),

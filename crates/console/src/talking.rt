@@ -10,9 +10,9 @@ use std::io::{Read, Write};
 
 // What is kept from one line to the next: the session, and the words that its store is lent from.
 #[derive(Clone, Copy)]
-struct Standing {
-    session: Session,
-    words: [u32; 320],
+pub struct Standing {
+    pub session: Session,
+    pub words: [u32; 320],
 }
 
 // Nothing is made or lent yet.
@@ -37,26 +37,19 @@ fn answer_line<W: Write>(
     requires { line_room ≤ length numbers.old }
     ensures { length numbers.new ≡ length numbers.old }
 {
+    let mut words = before.words;
     let session = before.session;
-    let stored = before.words;
-    let mut words = stored;
     let reply = dialogue::respond(session, line, number, numbers, &mut words, entries, out);
-    let after = reply.session;
-    let end = reply.end.min(out.len());
-    output.write_all(&out[0..end])?;
-    watching::watch(
-        output,
-        watched,
-        &out[0..end],
-        session,
-        &stored,
-        after,
-        &words,
-    )?;
-    Ok(Standing {
-        session: after,
-        words: words,
-    })
+    let after = Standing {
+        session: reply.session,
+        words,
+    };
+    let answer = &out[..reply.end.min(out.len())];
+    output.write_all(answer)?;
+    if watched {
+        watching::watch(output, answer, &before, &after)?;
+    }
+    Ok(after)
 }
 
 // Answers the lines that an input delivers, to its end.

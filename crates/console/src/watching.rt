@@ -1,5 +1,5 @@
 // What a refused line changed, told: nothing, as every public call promises.
-use dialogue::Session;
+use crate::talking::Standing;
 use model::{Answer, Outcome};
 use std::io;
 use std::io::Write;
@@ -29,37 +29,27 @@ fn kept_records(records: &[Outcome; 40]) -> bool {
 }
 
 // Compares the table, the store and the records before and after a refused line.
-fn compare<W: Write>(
-    output: &mut W,
-    before: Session,
-    stored: &[u32; 320],
-    after: Session,
-    store: &[u32; 320],
-) -> io::Result<()> {
-    unless(output, before.table == after.table, b"changed: table\n")?;
-    unless(output, stored == store, b"changed: store\n")?;
-    let filled = telling::report_to(after.table, after.records);
+fn compare<W: Write>(output: &mut W, before: &Standing, after: &Standing) -> io::Result<()> {
+    let old = before.session.table;
+    let new = after.session.table;
+    unless(output, old == new, b"changed: table\n")?;
+    unless(output, before.words == after.words, b"changed: store\n")?;
+    let filled = telling::report_to(new, after.session.records);
     if let Answer::Refused(_) = filled.answer {
         return unless(output, kept_records(&filled.records), b"changed: records\n");
     }
     Ok(())
 }
 
-// Where this is asked for and the answer is a refusal, compares what stood before the line and what stands after it.
+// Where the answer is a refusal, compares what stood before the line and what stands after it.
 pub fn watch<W: Write>(
     output: &mut W,
-    watched: bool,
     answer: &[u8],
-    before: Session,
-    stored: &[u32; 320],
-    after: Session,
-    store: &[u32; 320],
+    before: &Standing,
+    after: &Standing,
 ) -> io::Result<()> {
-    if !watched {
-        return Ok(());
-    }
     if is_refusal(answer) {
-        return compare(output, before, stored, after, store);
+        return compare(output, before, after);
     }
     Ok(())
 }

@@ -19,7 +19,7 @@ pub struct Line {
 }
 
 // An input that is read through a buffer: the bytes of the buffer from start to end are not used yet; whether the input has ended; and whether a line was
-// too long and its rest is still to be dropped.
+// too long and its rest is still to be dropped. Kept, two flags and no enum: both can be set, and no field is without a meaning where one is.
 #[derive(Drop)]
 pub struct Lines<'a> {
     pub buffer: &'a mut [u8],

@@ -1,6 +1,7 @@
 // The logs of two recorders of one run, as lines of the console: at each rendezvous an entry of the sends, as it was begun, and one of the receives, as its outcome tells.
 use crate::lines::print_line;
-use model::{Answer, Record, SendPart, Table};
+use crate::taken::Taken;
+use model::{Answer, SendPart, Table};
 use std::io;
 use std::io::Write;
 use text::{SPACE, Text};
@@ -41,29 +42,22 @@ fn print_received<W: Write>(output: &mut W, table: Table, x: u8, store: &[u32]) 
 }
 
 // Prints both entries of a record that is a rendezvous: a step, not refused, that finishes a copy.
-pub fn print_rendezvous<W: Write>(
-    output: &mut W,
-    item: Record,
-    answer: Answer,
-    before: Table,
-    after: Table,
-    store: &[u32],
-) -> io::Result<()> {
-    if item.kind != reading::STEP {
+pub fn print_rendezvous<W: Write>(output: &mut W, taken: Taken) -> io::Result<()> {
+    if taken.item.kind != reading::STEP {
         return Ok(());
     }
-    if let Answer::Refused(_) = answer {
+    if let Answer::Refused(_) = taken.answer {
         return Ok(());
     }
-    let x = item.thread;
+    let x = taken.item.thread;
     // Never none, for a step of such a thread is refused: no contract here says that.
-    let Some(own) = before.threads.get(usize::from(x)) else {
+    let Some(own) = taken.before.threads.get(usize::from(x)) else {
         return Ok(());
     };
     if recording::is_rendezvous(*own) {
         let send = own.op.send;
         print_sent(output, x, send)?;
-        return print_received(output, after, send.target, store);
+        return print_received(output, taken.after, send.target, taken.new);
     }
     Ok(())
 }

@@ -7,5 +7,6 @@ mod entries;
 mod lines;
 mod records;
 mod spoken;
+mod taken;
 
 pub use records::{Mode, follow};

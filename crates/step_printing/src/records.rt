@@ -3,6 +3,7 @@ ghost use Rattle.std.specs.Prelude.{◌≡◌, ◌≤◌, ◌<◌, length};
 ghost use Rattle.model.specs.RecordBytes.{longest_record};
 
 use crate::lines::print_thread;
+use crate::taken::Taken;
 use crate::{answers, entries, spoken};
 use model::{Answer, Record, Returned, Table};
 use record_input::{Found, LAST_BYTE, Next, Records, print_bad};
@@ -49,15 +50,18 @@ fn words_of(store: &[u32]) -> [u32; 256]
 }
 
 // Prints the answer to a record's call, and every field.
-fn print_full<W: Write>(
-    output: &mut W,
-    place: u64,
-    answer: Answer,
-    after: Table,
-    store: &[u32],
-) -> io::Result<()> {
-    answers::print_answer(output, place, answer)?;
-    print_threads(output, after, store)
+fn print_full<W: Write>(output: &mut W, taken: Taken) -> io::Result<()> {
+    answers::print_answer(output, taken.place, taken.answer)?;
+    print_threads(output, taken.after, taken.new)
+}
+
+// Prints what the mode says of a record.
+fn print_taken<W: Write>(output: &mut W, taken: Taken, mode: Mode) -> io::Result<()> {
+    match mode {
+        Mode::Full => print_full(output, taken),
+        Mode::Words => spoken::print_spoken(output, taken),
+        Mode::Logs => entries::print_rendezvous(output, taken),
+    }
 }
 
 // Makes the call of a record and prints what comes of it: the table after it.
@@ -73,16 +77,17 @@ fn follow_record<W: Write>(
 {
     let old = words_of(store);
     let returned = call(table, item, store);
-    let answer = returned.answer;
-    let after = returned.table;
-    match mode {
-        Mode::Full => print_full(output, place, answer, after, store)?,
-        Mode::Words => spoken::print_spoken(
-            output, place, item, answer, table, after, &old, store,
-        )?,
-        Mode::Logs => entries::print_rendezvous(output, item, answer, table, after, store)?,
-    }
-    Ok(after)
+    let taken = Taken {
+        place,
+        item,
+        answer: returned.answer,
+        before: table,
+        after: returned.table,
+        old: &old,
+        new: store,
+    };
+    print_taken(output, taken, mode)?;
+    Ok(returned.table)
 }
 
 // Prints what comes of the table record, which is no rendezvous.

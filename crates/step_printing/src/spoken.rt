@@ -1,6 +1,7 @@
 // One line for a record: which call it was, what it answered, and what it changed of each thread, in words.
 use crate::lines::print_line;
-use model::{Answer, Record, Table};
+use crate::taken::Taken;
+use model::Record;
 use std::io;
 use std::io::Write;
 use text::{SPACE, Text};
@@ -18,38 +19,29 @@ fn put_pad(line: &mut Text, column: usize) {
 }
 
 // The changes of all threads.
-fn put_all(line: &mut Text, before: Table, after: Table, old: &[u32], new: &[u32]) {
-    for x in 0..after.n.min(32) {
-        let i = usize::from(x);
+fn put_all(line: &mut Text, taken: Taken) {
+    let threads = taken.before.threads.iter().zip(&taken.after.threads);
+    for (x, (was, is)) in (0..taken.after.n).zip(threads) {
         speaking::put_changes(
             line,
             x,
-            before.threads[i],
-            after.threads[i],
-            first_words(old, x, WORD_LIMIT),
-            first_words(new, x, WORD_LIMIT),
+            *was,
+            *is,
+            first_words(taken.old, x, WORD_LIMIT),
+            first_words(taken.new, x, WORD_LIMIT),
         );
     }
 }
 
 // Prints the line of a record.
-pub fn print_spoken<W: Write>(
-    output: &mut W,
-    place: u64,
-    item: Record,
-    answer: Answer,
-    before: Table,
-    after: Table,
-    old: &[u32],
-    new: &[u32],
-) -> io::Result<()> {
+pub fn print_spoken<W: Write>(output: &mut W, taken: Taken) -> io::Result<()> {
     let mut space = [0u8; 65536];
     let mut line = Text::new(&mut space);
-    speaking::put_call(&mut line, place, item, answer);
+    speaking::put_call(&mut line, taken.place, taken.item, taken.answer);
     let called = line.len();
     put_pad(&mut line, COLUMN);
     let column = line.len();
-    put_all(&mut line, before, after, old, new);
+    put_all(&mut line, taken);
     // Where nothing changed, the line ends with the answer.
     if line.len() == column {
         line.truncate(called);

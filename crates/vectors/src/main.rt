@@ -49,6 +49,7 @@ fn play<I: Read, O: Write>(input: &mut I, output: &mut O, task: Task) -> io::Res
 }
 
 // Opens the schedule with this name, which is a path as text.
+// Kept beside its twin in `console`: no crate below both opens files, and one for these six lines is no plainer.
 fn open_schedule<R: Files>(rt: &R, name: &[u8]) -> io::Result<R::File> {
     match str::from_utf8(name) {
         Ok(path) => fs::open(rt, path),
