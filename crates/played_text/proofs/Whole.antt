@@ -44,6 +44,10 @@ opening_starts bytes t accepted is four = by (lawful true (front bytes))
         rw (words, t_is) (reached-first (take 4 bytes) (ap (lawful true) (front-four bytes good) ∙ good)
         (ap make_refusal (sym (size good) ∙ opened-size bytes accepted) ∙ sym (opens bytes good) ∙ accepted))
 
+-- with a store that is the first of the zeros
+pub opening_begins : (bytes : List ℕ) (t : Playback) → 0 ≡ open_refusal bytes → t ≡ opened (open_size bytes) → (4 ≤ length bytes) × Steady t → Starts t bytes × Stored t (8 * t.table.n) (zeros 256)
+opening_begins bytes t accepted is (four, steady) = (opening_starts bytes t (sym accepted) is four, stored-first t (8 * t.table.n) steady refl)
+
 -- the bytes behind the table record, as the code takes them
 abbrev pub behind : List ℕ → List ℕ
 behind bytes = take (length bytes - 4) (drop 4 bytes)

@@ -2,7 +2,7 @@
 ghost use Rattle.std.specs.Prelude.{◌≤◌};
 
 use crate::lines::put_line;
-use counts::{Counted, count_endings};
+use counts::count_endings;
 use digits::code_of;
 use model::{Answer, Table};
 use numbers::lesser;
@@ -86,19 +86,13 @@ fn put_refused(out: &mut [u8], answer: Answer, counts: &[u32]) -> usize {
 }
 
 // What a count answered: the length used and how many lines follow, and these; or a refusal.
-fn put_counted(out: &mut [u8], n: u8, counted: Counted, counts: &[u32]) -> usize {
-    let answer = counted.answer;
-    if let Answer::Refused(_) = answer {
-        return put_refused(out, answer, counts);
-    }
+fn put_counted(out: &mut [u8], n: u8, counted: Result<u8, u8>, counts: &[u32]) -> usize {
+    let length = match counted {
+        Err(number) => return put_refused(out, Answer::Refused(number), counts),
+        Ok(length) => length,
+    };
     let lines = endings(counts);
-    let end = put_numbers(
-        out,
-        b"length ",
-        counted.length as u64,
-        b" lines ",
-        lines as u64,
-    );
+    let end = put_numbers(out, b"length ", length as u64, b" lines ", lines as u64);
     put_endings(out, end, n, counts)
 }
 

@@ -6,7 +6,6 @@ ghost use Rattle.telling.specs.Texts.{rest_text};
 
 use crate::lines::{put_line, put_word};
 use model::{Answer, Table};
-use resting::RestAnswer;
 use text::{put_byte, put_number, put_text};
 
 // That a thread would move.
@@ -22,10 +21,9 @@ fn put_mover(out: &mut [u8], x: u8) -> usize
 pub fn rest(table: Table, out: &mut [u8]) -> usize
     ensures { Written 0 (rest_text (rest_answer table)) out.old out.new result }
 {
-    let answer = resting::rest(table);
-    match answer {
-        RestAnswer::Refused(number) => put_line(out, 0, Answer::Refused(number)),
-        RestAnswer::AtRest => put_word(out, b"at rest"),
-        RestAnswer::WouldMove(x) => put_mover(out, x),
+    match resting::rest(table) {
+        Err(number) => put_line(out, 0, Answer::Refused(number)),
+        Ok(None) => put_word(out, b"at rest"),
+        Ok(Some(x)) => put_mover(out, x),
     }
 }

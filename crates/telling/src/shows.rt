@@ -7,7 +7,6 @@ ghost use Rattle.telling.specs.Texts.{sender_text, search_text};
 use crate::lines::{put_line, put_word};
 use model::{Answer, Outcome, Table};
 use queues::Found;
-use searches::SearchAnswer;
 use text::{put_byte, put_number, put_text, put_words};
 use threads::{NOBODY, WORD_LIMIT};
 
@@ -70,10 +69,9 @@ fn put_found(out: &mut [u8], found: Found) -> usize
 pub fn search(table: Table, x: u8, out: &mut [u8]) -> usize
     ensures { Written 0 (search_text (search_answer table x)) out.old out.new result }
 {
-    let answer = searches::search(table, x);
-    match answer {
-        SearchAnswer::Refused(number) => put_line(out, 0, Answer::Refused(number)),
-        SearchAnswer::NotReceiving => put_word(out, b"not receiving"),
-        SearchAnswer::Searched(found) => put_found(out, found),
+    match searches::search(table, x) {
+        Err(number) => put_line(out, 0, Answer::Refused(number)),
+        Ok(None) => put_word(out, b"not receiving"),
+        Ok(Some(found)) => put_found(out, found),
     }
 }
