@@ -1,5 +1,5 @@
 -- The rows of a begin, in the order of checking: those on the place, on the thread and its operation, and on the rules.
-use Rattle.std.proofs.Common.{◌≡◌, ℕ, true, List, [], ◌∷◌, ◌++◌, length, refl, sym, ◌∙◌}
+use Rattle.std.proofs.Common.{◌≡◌, ℕ, true, List, [], ◌∷◌, ◌++◌, length, refl, ◌∙◌}
 use Rattle.model.specs.declared.Operation.{Operation}
 use Rattle.model.specs.declared.EntryPoint.{EntryPoint}
 use Rattle.model.specs.declared.Table.{Table}
@@ -7,7 +7,7 @@ use Rattle.model.specs.Calls.{begin_via}
 use Rattle.model.specs.Promise.{state}
 use Rattle.model.specs.Refusals.{first_refusal, bad_size, not_well_formed, no_thread, bad_length, not_permitted, table_rows, argument_rows, unruled_rows, begin_rows, later_rows, rows_of, refusal}
 use Rattle.laws.proofs.Rows.{numbered}
-use Rattle.laws.proofs.Groups.{before-rules, then_rules}
+use Rattle.laws.proofs.Groups.{then_rules}
 use Rattle.refusals.specs.declared.Refusal.{Refusal}
 use Rattle.refusals.specs.Numbers.{number}
 use Rattle.refusals.proofs.Laws.{group-stops, group-goes_on}

@@ -3,8 +3,8 @@ use Rattle.std.proofs.Common.{◌≡◌, refl, sym, ◌∙◌, List, [], ◌++�
 use Rattle.model.specs.Answers.{SaidOutcome, shown}
 use Rattle.model.specs.Threads.{at}
 use Rattle.model.specs.Store.{words_at}
-use Rattle.model.specs.Calls.{step, State}
-use Rattle.model.specs.Refusals.{first_refusal, unless, table_rows, argument_rows, refusal, outcome_refusal}
+use Rattle.model.specs.Calls.{State}
+use Rattle.model.specs.Refusals.{first_refusal, unless, table_rows, argument_rows, outcome_refusal}
 use Rattle.model.specs.Promise.{view, outcome_answer, outcome_words, outcome_place}
 use Rattle.laws.proofs.Lists.{zero_or_not}
 use Rattle.laws.proofs.Refusals.{outcome_as_step, accepted-step}

@@ -2,8 +2,7 @@ use Rattle.std.proofs.Common.{refl, rules}
 use Rattle.model.proofs.Tested.{well_formed-told}
 use Rattle.model.specs.Threads.{at}
 use Rattle.laws.proofs.Rules.{fitting_few}
-use Rattle.refusals.proofs.Laws.{refusal-numbered}
-use Rattle.engine.proofs.Beginning.{place-refuses, begin-refuses, rules-decide}
+use Rattle.engine.proofs.Beginning.{begin-refuses, rules-decide}
 use Rattle.engine.proofs.begin_refusal.Goals as goal
 
 -- a well-formed table has at most 64 rows of rules

@@ -1,4 +1,4 @@
-use Rattle.std.proofs.Common.{◌≡◌, ◌*◌, ◌≤◌, true, length, take, sym, ◌∙◌, arith}
+use Rattle.std.proofs.Common.{◌≡◌, ◌*◌, ◌≤◌, true, sym, ◌∙◌, arith}
 use lib.Seq.{length-take-le}
 use Rattle.model.specs.declared.Table.{Table}
 use Rattle.model.specs.WellFormed.{well_formed}
