@@ -1,4 +1,4 @@
-use Rattle.std.proofs.Common.{◌<◌, length, sym, refl, rules}
+use Rattle.std.proofs.Common.{sym, refl, rules}
 use Rattle.played_text.proofs.Refusing.{all_of_them}
 use Rattle.played_text.proofs.Stores.{words-there, words-length}
 use Rattle.played_text.proofs.Whole.{opening_begins, playable, place-within, whole-written}
