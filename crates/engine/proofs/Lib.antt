@@ -1,2 +1,4 @@
-pub mod Refused
+pub mod Beginning
+pub mod Cancelling
 pub mod Loading
+pub mod Refused

@@ -1,34 +1,28 @@
 -- What the outcome call promises: of its answer, by the code's tests, and of its words and their place, by its answer.
-use mathlib.Core.Path.{◌≡◌, refl, sym, ◌∙◌}
-use mathlib.Core.Logic.{◌≢◌}
-use mathlib.Core.List.{List, []}
-use Prim.Native.Nat.{ℕ, ◌+◌, ◌*◌, min}
-use native.Mathlib.Omega.{arith}
-use lib.ListN.{length, take}
+use Rattle.std.proofs.Common.{◌≡◌, refl, sym, ◌∙◌, List, [], ◌++◌, ℕ, ◌+◌, ◌*◌, min, arith, length, take}
 use Rattle.model.specs.Answers.{SaidOutcome, shown}
 use Rattle.model.specs.Threads.{at}
 use Rattle.model.specs.Store.{words_at}
-use Rattle.model.specs.Calls.{step, State}
-use Rattle.model.specs.Refusals.{unless, refusal, outcome_refusal}
+use Rattle.model.specs.Calls.{State}
+use Rattle.model.specs.Refusals.{first_refusal, unless, table_rows, argument_rows, outcome_refusal}
 use Rattle.model.specs.Promise.{view, outcome_answer, outcome_words, outcome_place}
 use Rattle.laws.proofs.Lists.{zero_or_not}
 use Rattle.laws.proofs.Refusals.{outcome_as_step, accepted-step}
+use Rattle.refusals.specs.declared.Refusal.{Refusal}
+use Rattle.refusals.specs.Numbers.{number}
+use Rattle.refusals.proofs.Laws.{refusal-numbered}
 
--- ---- the answer: the outcome call is refused as a step is
-module _ (s : State) (x g : ℕ) (e : g ≡ refusal (step x) s) where
-  -- the number by which it is refused
-  number_is : outcome_refusal s x ≡ g
-  number_is = outcome_as_step s x ∙ sym e
-
+-- ---- the answer
+module _ (s : State) (x : ℕ) where
   -- refused, it answers the number
-  pub outcome-refused : g ≢ 0 → SaidOutcome.refused g ≡ outcome_answer s x
-  unfolding outcome_answer unless
-  outcome-refused d = zero_or_not g (λ z. absurd (d z)) (λ k is. rw (number_is, is) refl)
+  pub outcome-refused : (r : Refusal) (g : ℕ) → g ≡ number r → number r ≡ first_refusal (table_rows s.table ++ argument_rows s.table x (length s.store)) → SaidOutcome.refused g ≡ outcome_answer s x
+  unfolding outcome_answer outcome_refusal unless
+  outcome-refused r g is e = zero_or_not (number r) (λ z. absurd (omega (arith, refusal-numbered r))) (λ k n. rw (sym e, is, n) refl)
 
   -- else it shows code, source and count
-  pub outcome-shown : g ≡ 0 → shown (at s.table x).outcome ≡ outcome_answer s x
-  unfolding outcome_answer unless view
-  outcome-shown z = rw (number_is ∙ z) refl
+  pub outcome-shown : 0 ≡ first_refusal (table_rows s.table ++ argument_rows s.table x (length s.store)) → shown (at s.table x).outcome ≡ outcome_answer s x
+  unfolding outcome_answer outcome_refusal unless view
+  outcome-shown z = rw (sym z) refl
 
 -- ---- the words and their place
 module _ (s : State) (x : ℕ) where

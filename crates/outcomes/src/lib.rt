@@ -20,18 +20,8 @@ pub struct OutcomeReturned<'a> {
 pub fn outcome_answer(table: Table, thread: u8, store: &[u32]) -> Result<Outcome, u8>
     ensures { said_outcome result ≡ outcome_answer (state table store.now) thread }
 {
-    let first = refusals::table_refusal(table);
-    if first != 0 {
-        return Err(first);
-    }
-    let second = refusals::argument_refusal(table.n, thread, store.len());
-    if second != 0 {
-        return Err(second);
-    }
-    let i = thread as usize;
-    let own = table.threads[i];
-    let shown = own.outcome;
-    Ok(shown)
+    refusals::stored_call_refusal(table, thread, store.len())?;
+    Ok(table.threads[thread as usize].outcome)
 }
 
 // The words that go with an answer, as a slice of the caller's store; refused, an empty one at its front.

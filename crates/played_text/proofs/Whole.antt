@@ -1,8 +1,8 @@
 -- A schedule that stands whole in memory: its table record, and all that stands behind it.
-use mathlib.Core.Path.{◌≡◌, refl, sym, ap, ◌∙◌, subst}
+use mathlib.Core.Path.{◌≡◌, refl, sym, ap, ◌∙◌}
 use mathlib.Core.Bool.{Bool, true, false}
 use mathlib.Core.List.{List, [], ◌++◌}
-use Prim.Native.Nat.{ℕ, ◌+◌, ◌-◌, ◌*◌, ◌≤◌, ◌<◌}
+use Prim.Native.Nat.{ℕ, ◌-◌, ◌*◌, ◌≤◌, ◌<◌}
 use native.Mathlib.Omega.{arith}
 use lib.ListN.{length, take, drop, replicate, length-drop, take-append-drop}
 use lib.Seq.{take_all}
@@ -21,7 +21,7 @@ use Rattle.opening.proofs.Opening.{not_opened, opens, opened-size, opened-words}
 use Rattle.playing.specs.Playback.{Playable, PlayPromise, Carries}
 use Rattle.played_text.specs.Known.{Reached, Starts, longest_end}
 use Rattle.played_text.proofs.Known.{reached-first, reached-more}
-use Rattle.played_text.proofs.Stores.{Stored, zeros, stored-first, words-there, words-length, zeros-taken, array, stored_on, array_starts}
+use Rattle.played_text.proofs.Stores.{Stored, zeros, stored-first, words-length, zeros-taken, array, array_starts}
 
 -- what opening returned is the playback of the table record, if it is not refused
 pub opening_starts : (bytes : List ℕ) (t : Playback) → open_refusal bytes ≡ 0 → t ≡ opened (open_size bytes) → 4 ≤ length bytes → Starts t bytes
@@ -43,6 +43,10 @@ opening_starts bytes t accepted is four = by (lawful true (front bytes))
         let words : 8 * t.table.n ≡ 8 * n = ap (λ (u : Playback). 8 * u.table.n) t_is ∙ opened-words n in
         rw (words, t_is) (reached-first (take 4 bytes) (ap (lawful true) (front-four bytes good) ∙ good)
         (ap make_refusal (sym (size good) ∙ opened-size bytes accepted) ∙ sym (opens bytes good) ∙ accepted))
+
+-- with a store that is the first of the zeros
+pub opening_begins : (bytes : List ℕ) (t : Playback) → 0 ≡ open_refusal bytes → t ≡ opened (open_size bytes) → (4 ≤ length bytes) × Steady t → Starts t bytes × Stored t (8 * t.table.n) (zeros 256)
+opening_begins bytes t accepted is (four, steady) = (opening_starts bytes t (sym accepted) is four, stored-first t (8 * t.table.n) steady refl)
 
 -- the bytes behind the table record, as the code takes them
 abbrev pub behind : List ℕ → List ℕ

@@ -35,11 +35,10 @@ pub fn refused_text(number: u8, bytes: &[u8], out: &mut [u8]) -> usize
 pub fn text_of(bytes: &[u8], out: &mut [u8]) -> usize
     ensures { Printed (bondtrace bytes.now) longest_end out.old out.new result }
 {
-    let opened = opening::open(bytes);
-    if opened.number != 0 {
-        return refused_text(opened.number, bytes, out);
-    }
-    let start = opened.playback;
+    let start = match opening::open(bytes) {
+        Err(refusal) => return refused_text(refusal.into(), bytes, out),
+        Ok(start) => start,
+    };
     let mut words = [0u32; 256];
     let size = 8 * (start.table.n as usize);
     let played = playing::play(start, &mut words[..size], &bytes[reading::HEAD_BYTES..]);

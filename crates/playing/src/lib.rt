@@ -99,7 +99,7 @@ pub fn play(from: Playback, store: &mut [u32], bytes: &[u8]) -> Played
         }
         // a begin
         let op = reading::operation_at(record);
-        if refusals::begin_refusal(EntryPoint::Main, n, x, own, op) != 0 {
+        if refusals::begin_refusal(EntryPoint::Main, n, x, own, op).is_err() {
             refused += 1;
             continue;
         }

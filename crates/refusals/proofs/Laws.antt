@@ -1,58 +1,76 @@
--- Rows as the code tests and joins them.
-use mathlib.Core.Path.{◌≡◌, refl, sym, ◌∙◌, ap}
-use mathlib.Core.Bool.{Bool, true, not, ◌&&◌, ◌||◌, or-false}
-use mathlib.Core.List.{List, [], ◌∷◌, ◌++◌}
-use Prim.Native.Nat.{ℕ}
-use native.Mathlib.Omega.{arith}
-use lib.Dec.{eqb, leb, ltb}
-use borrow.Author.Tests.{lt-ltb, le-ltb, leb-true, leb-false, eq-eqb, ne_eqb}
+-- Rows as `?` joins them.
+use Rattle.std.proofs.Common.{◌≡◌, ◌≢◌, ℕ, ◌<◌, true, false, List, [], ◌∷◌, ◌++◌, Result, Ok, Err, refl, arith}
+use Rattle.std.specs.Result.{is_err}
 use Rattle.model.specs.declared.Operation.{Operation}
 use Rattle.model.specs.declared.EntryPoint.{EntryPoint}
 use Rattle.model.specs.declared.EntryPoint.TheVariants.{Main, Spark}
-use Rattle.model.specs.declared.Thread.{Thread}
-use Rattle.model.specs.declared.Table.{Table}
-use Rattle.model.specs.Times.{is_time_code}
-use Rattle.model.specs.Operations.{has_receive, receive_time}
-use Rattle.model.specs.Phases.{is_one_of, idle, phase_number}
-use Rattle.model.specs.Threads.{at}
-use Rattle.model.specs.WellFormed.{in_phase}
-use Rattle.model.specs.Refusals.{Row, first_refusal, not_idle, too_many_words, bad_time}
+use Rattle.model.specs.Refusals.{Row, first_refusal, too_many_words}
 use Rattle.model.proofs.Laws.{by}
-use Rattle.laws.proofs.Lists.{cond-true, cond-false, zero_or_not}
 use Rattle.laws.proofs.Rows.{numbered, group_refuses, group_passes}
-use Rattle.refusals.specs.Rows.{first_of}
+use Rattle.refusals.specs.declared.Refusal.{Refusal}
+use Rattle.refusals.specs.declared.Refusal.TheVariants.{BadSize, NotWellFormed, NoThread, LockOwned, NotIdle, NeitherPart, WithItself, NoPartner, TooManyWords, BadTime, BadLength, BadRecord, NotPermitted, BadRules, NoMember, TooManySparkWords}
+use Rattle.refusals.specs.Numbers.{number, number_of}
 
--- the first of two refusals is that of the rows of both
-pub first-joined : (a b : List Row) (f g : ℕ) → numbered a ≡ true → f ≡ first_refusal a → g ≡ first_refusal b → first_of f g ≡ first_refusal (a ++ b)
-unfolding first_of
-first-joined a b f g k e h = zero_or_not f
-    (λ z. cond-true _ _ _ (eq-eqb f 0 z) ∙ group_passes a b f g k e z h)
-    (λ m is. cond-false _ _ _ (ne_eqb f 0 (λ z. omega arith)) ∙ group_refuses a b f e (λ z. omega arith))
-
--- a row by another form of its test
-pub row_as : (number : ℕ) (b c : Bool) → b ≡ c → first_refusal (record { when = b; number = number } ∷ []) ≡ first_refusal (record { when = c; number = number } ∷ [])
-row_as number b c e = ap (λ (d : Bool). first_refusal (record { when = d; number = number } ∷ [])) e
+-- no refusal has the number 0
+pub refusal-numbered : (refusal : Refusal) → 0 < number refusal
+refusal-numbered BadSize = omega arith
+refusal-numbered NotWellFormed = omega arith
+refusal-numbered NoThread = omega arith
+refusal-numbered LockOwned = omega arith
+refusal-numbered NotIdle = omega arith
+refusal-numbered NeitherPart = omega arith
+refusal-numbered WithItself = omega arith
+refusal-numbered NoPartner = omega arith
+refusal-numbered TooManyWords = omega arith
+refusal-numbered BadTime = omega arith
+refusal-numbered BadLength = omega arith
+refusal-numbered BadRecord = omega arith
+refusal-numbered NotPermitted = omega arith
+refusal-numbered BadRules = omega arith
+refusal-numbered NoMember = omega arith
+refusal-numbered TooManySparkWords = omega arith
 
 -- the row on words has a number through either entry
-pub words-numbered : (via : EntryPoint) (o : Operation) → numbered (too_many_words via o ∷ []) ≡ true
+pub words-numbered : (via : EntryPoint) (o : Operation) → 0 < (too_many_words via o).number
 unfolding too_many_words
-words-numbered Main o = refl
-words-numbered Spark o = refl
+words-numbered Main o = omega arith
+words-numbered Spark o = omega arith
 
--- the row on the phase by its test
-pub idle-row : (t : Table) (x : ℕ) (h : Thread) → at t x ≡ h → not (eqb h.phase (phase_number idle)) ≡ (not_idle t x).when
-unfolding not_idle in_phase is_one_of
-idle-row t x h e = ap not (sym (or-false (eqb h.phase (phase_number idle)))) ∙ ap (λ (g : Thread). not (in_phase (idle ∷ []) g)) (sym e)
+module _ (row : Row) (rows : List Row) where
+  -- where a row does not hold, the others decide
+  pub row-passes : first_refusal (row ∷ []) ≡ 0 → 0 < row.number → first_refusal (row ∷ rows) ≡ first_refusal rows
+  unfolding first_refusal
+  row-passes e n = by row.when
+      (λ i. absurd (let z : row.number ≡ 0 = rw i at e in omega arith))
+      (λ i. rw i refl)
 
--- a time code above 15 is none
-bad-time : (code : ℕ) → ltb 15 code ≡ not (is_time_code code)
-unfolding is_time_code
-bad-time code = by (leb code 15)
-    (λ e. le-ltb 15 code (leb-true code 15 e) ∙ sym (ap (λ (b : Bool). not b) e))
-    (λ e. lt-ltb 15 code (leb-false code 15 e) ∙ sym (ap (λ (b : Bool). not b) e))
+  -- where it holds, it decides
+  pub row-stops : 0 < first_refusal (row ∷ []) → first_refusal (row ∷ rows) ≡ first_refusal (row ∷ [])
+  unfolding first_refusal
+  row-stops l = by row.when
+      (λ i. rw i refl)
+      (λ i. absurd (let z : 0 < 0 = rw i at l in omega arith))
 
--- the row on time codes by its test
-pub time-row : (o : Operation) (receives : Bool) (waits : ℕ) → receives ≡ has_receive o.receive → waits ≡ receive_time o.receive
-    → (o.send.present && ltb 15 o.send.time || receives && ltb 15 waits) ≡ (bad_time o).when
-unfolding bad_time
-time-row o receives waits has is = rw (has, is, bad-time o.send.time, bad-time (receive_time o.receive)) refl
+pub ruleset joined = (refusal-numbered, words-numbered, row-passes, row-stops)
+
+-- ---- group by group
+module _ (a b : List Row) where
+  -- a refusal by the first group is that of the whole
+  pub group-stops : (refusal : Refusal) → number refusal ≡ first_refusal a → number refusal ≡ first_refusal (a ++ b)
+  group-stops refusal e = group_refuses a b (number refusal) e (λ z. omega (arith, refusal-numbered refusal))
+
+  -- where there is none, the others decide
+  pub group-goes_on : (g : ℕ) → numbered a ≡ true → 0 ≡ first_refusal a → g ≡ first_refusal b → g ≡ first_refusal (a ++ b)
+  group-goes_on g k none e = group_passes a b 0 g k none refl e
+
+-- ---- where only whether there is one is asked
+module _ {A : Type 0} where
+  -- there is one
+  pub some-refused : (answer : Result A Refusal) → is_err answer ≡ true → number_of answer ≢ 0
+  some-refused (Ok x) e = cc
+  some-refused (Err refusal) e = λ z. omega (arith, refusal-numbered refusal)
+
+  -- there is none
+  pub none-refused : (answer : Result A Refusal) → is_err answer ≡ false → number_of answer ≡ 0
+  none-refused (Ok x) e = refl
+  none-refused (Err refusal) e = cc

@@ -1,13 +1,9 @@
 -- How the code joins rows of refusal.
-use Rattle.std.specs.Prelude.{cond, List, [], ◌∷◌, ℕ, eqb}
+use Rattle.std.specs.Prelude.{List, [], ◌∷◌, ℕ}
 use Rattle.model.specs.declared.Operation.{Operation}
 use Rattle.model.specs.declared.EntryPoint.{EntryPoint}
 use Rattle.model.specs.declared.Table.{Table}
 use Rattle.model.specs.Refusals.{Row, lock_owned, not_idle, neither_part, with_itself, no_partner, no_member, too_many_words, bad_time}
-
--- the first of two refusals, each 0 where there is none
-unfoldable pub first_of : ℕ → ℕ → ℕ
-first_of f g = cond (eqb f 0) g f
 
 -- the rows on a thread that begins
 unfoldable pub thread_rows : Table → ℕ → List Row

@@ -1,6 +1,5 @@
 -- When a report is right: where the call is refused, and where it is accepted; and records that are filled with outcomes one after the other.
 use mathlib.Core.Path.{◌≡◌, refl, sym, ◌∙◌}
-use mathlib.Core.Logic.{◌≢◌}
 use mathlib.Core.List.{List, [], ◌∷◌, ◌++◌, append-nil}
 use Prim.Native.Nat.{ℕ, suc, ◌+◌, ◌≤◌, ◌<◌}
 use native.Mathlib.Omega.{arith}
@@ -21,6 +20,9 @@ use Rattle.model.proofs.Numbers.{size-read}
 use Rattle.laws.proofs.Lists.{zero_or_not}
 use Rattle.laws.proofs.Below.{read-up-to}
 use Rattle.laws.proofs.Rows.{none-holds}
+use Rattle.refusals.specs.declared.Refusal.{Refusal}
+use Rattle.refusals.specs.Numbers.{number}
+use Rattle.refusals.proofs.Laws.{refusal-numbered}
 use Rattle.report.specs.Report.{all_outcomes, Reported}
 
 -- ---- filling records
@@ -68,11 +70,11 @@ report-fits t records e = let (size, (formed, (long, end))) = none-holds (bad_si
 
 module _ (t : Table) (records : ℕ) (outcomes : List Outcome) (all : outcomes ≡ all_outcomes t) where
   -- a refused report has the refusal's number and fills no record
-  pub refused-report : (g : ℕ) → g ≡ report_refusal t records → g ≢ 0 → Reported t records (record { answer = Refused g; len = 0; outcomes = outcomes })
+  pub refused-report : (r : Refusal) (g : ℕ) → g ≡ number r → number r ≡ report_refusal t records → Reported t records (record { answer = Refused g; len = 0; outcomes = outcomes })
   unfolding unless
-  refused-report g e d = zero_or_not g (λ z. absurd (d z)) (λ k is.
-      let r : report_refusal t records ≡ suc k = sym e ∙ is in
-      record { answers = rw (is, r) refl; fills = rw r refl; outcomes = all })
+  refused-report r g is e = zero_or_not (number r) (λ z. absurd (omega (arith, refusal-numbered r))) (λ k n.
+      let m : report_refusal t records ≡ suc k = sym e ∙ n in
+      record { answers = rw (is ∙ n, m) refl; fills = rw m refl; outcomes = all })
 
   -- an accepted one fills every record
   pub accepted-report : 0 ≡ report_refusal t records → Reported t records (record { answer = Accepted; len = records; outcomes = outcomes })

@@ -3,12 +3,16 @@
 #![tactic(auto)]
 
 ghost use Rattle.std.specs.Prelude.{◌≡◌, get_or};
+ghost use Rattle.model.specs.Refusals.{report_refusal};
 ghost use Rattle.model.specs.Promise.{ReportPromise};
+ghost use Rattle.refusals.specs.Numbers.{number_of};
 ghost use Rattle.report.specs.Report.{zero_outcome, all_outcomes, Reported};
 
 use model::{Answer, Outcome, Table};
+use refusals::Refusal;
 
 // What a report says: its answer, how many of the caller's records it fills, none where it is refused, and the outcomes of all 32 threads.
+// Kept: `Reported` settles the outcomes of a refused report too, which a Result would not hand out.
 #[derive(Clone, Copy)]
 pub struct Report {
     pub answer: Answer,
@@ -31,16 +35,19 @@ fn zero_outcome() -> Outcome
 fn outcomes_of(table: Table) -> [Outcome; 32]
     ensures { result ≡ all_outcomes table }
 {
-    let none = zero_outcome();
-    let mut outcomes = [none; 32];
-    let mut i: usize = 0;
-    while i < 32 {
-        let thread = table.threads[i];
-        let outcome = thread.outcome;
-        outcomes[i] = outcome;
-        i += 1;
+    let mut outcomes = [zero_outcome(); 32];
+    for (x, outcome) in outcomes.iter_mut().enumerate() {
+        *outcome = table.threads[x].outcome;
     }
     outcomes
+}
+
+// The rows of a report into so many records.
+fn report_refusal(table: Table, records: usize) -> Result<(), Refusal>
+    ensures { number_of result ≡ report_refusal table records }
+{
+    refusals::table_refusal(table)?;
+    refusals::length_refusal(table.n as usize, records)
 }
 
 // What the report call says, for a table and a number of the caller's records.
@@ -48,26 +55,17 @@ pub fn reported(table: Table, records: usize) -> Report
     ensures { Reported table records result }
 {
     let outcomes = outcomes_of(table);
-    let first = refusals::table_refusal(table);
-    if first != 0 {
-        return Report {
-            answer: Answer::Refused(first),
+    match report_refusal(table, records) {
+        Err(refusal) => Report {
+            answer: Answer::Refused(refusal.into()),
             len: 0,
             outcomes: outcomes,
-        };
-    }
-    let second = refusals::length_refusal(table.n as usize, records);
-    if second != 0 {
-        return Report {
-            answer: Answer::Refused(second),
-            len: 0,
+        },
+        Ok(()) => Report {
+            answer: Answer::Accepted,
+            len: records,
             outcomes: outcomes,
-        };
-    }
-    Report {
-        answer: Answer::Accepted,
-        len: records,
-        outcomes: outcomes,
+        },
     }
 }
 
@@ -75,10 +73,7 @@ pub fn reported(table: Table, records: usize) -> Report
 pub fn outcome_in(report: Report, i: usize) -> Outcome
     ensures { result ≡ get_or report.outcomes i zero_outcome }
 {
-    if 32 <= i {
-        return zero_outcome();
-    }
-    report.outcomes[i]
+    report.outcomes.get(i).copied().unwrap_or(zero_outcome())
 }
 
 // Fills the caller's records with the outcome of each thread; refused, leaves them as they are.
@@ -86,10 +81,8 @@ pub fn report_into(table: Table, records: &mut [Outcome]) -> Answer
     ensures { ReportPromise table records.old result records.new }
 {
     let report = reported(table, records.len());
-    let mut i: usize = 0;
-    while i < report.len {
+    for i in 0..report.len {
         records[i] = outcome_in(report, i);
-        i += 1;
     }
     report.answer
 }

@@ -1,11 +1,9 @@
 -- The steps of a table's threads, tried one after the other, and the answer that comes of it.
-use Rattle.std.specs.Prelude.{◌≡◌, ℕ, ◌+◌, ◌*◌, ◌<◌, ◌≤◌, true, false, not, ◌≢◌, List, length}
-use mathlib.Core.Path.{refl, sym, ap, ◌∙◌}
-use native.Mathlib.Omega.{arith}
+use Rattle.std.proofs.Common.{◌≡◌, ℕ, ◌+◌, ◌*◌, ◌<◌, ◌≤◌, true, false, not, List, length, Option, None, Some, Ok, MatchOption, refl, sym, ap, ◌∙◌, arith}
 use borrow.Author.Tests.{lt-ltb, le-ltb}
 use Rattle.model.specs.declared.Table.{Table}
 use Rattle.model.specs.declared.Answer.{Answer}
-use Rattle.model.specs.Answers.{said, SaidRest, resting, would_move}
+use Rattle.model.specs.Answers.{said, SaidRest}
 use Rattle.model.specs.WellFormed.{well_formed}
 use Rattle.model.specs.Calls.{step, State}
 use Rattle.model.specs.Refusals.{first_refusal, unless, table_rows, refusal}
@@ -16,6 +14,10 @@ use Rattle.laws.proofs.Below.{first-missing, first-is}
 use Rattle.laws.proofs.Lists.{cond-true, cond-false, zero_or_not}
 use Rattle.laws.proofs.Accepted.{step-accepted}
 use Rattle.laws.proofs.Calls.{answers_as_tried}
+use Rattle.refusals.specs.declared.Refusal.{Refusal}
+use Rattle.refusals.specs.Numbers.{number}
+use Rattle.refusals.proofs.Laws.{refusal-numbered}
+use Rattle.resting.specs.Said.{said_rest}
 
 -- ---- one step
 module _ (t : Table) (x : ℕ) (formed : well_formed t ≡ true) (below : x < t.n) (store : List ℕ) (fit : length store ≡ 8 * t.n) where
@@ -41,33 +43,28 @@ none_tried t formed = record { formed = formed; inside = omega arith; stayed = �
 
 module _ {t : Table} {x : ℕ} (K : Trying t x) where
   -- where all were tried, none would move
-  pub all-tried : t.n ≤ x → t.n ≡ first_to_move t
+  pub all-tried : t.n ≤ x → first_to_move t ≡ t.n
   unfolding first_to_move
-  all-tried past = sym (first-missing t.n (λ y. not (step_stays (tried t) y)) (λ y l. ap not (K.stayed y (omega arith))))
+  all-tried past = first-missing t.n (λ y. not (step_stays (tried t) y)) (λ y l. ap not (K.stayed y (omega arith)))
 
   -- where the next stays too, one more was tried
   pub goes_on : x < t.n → step_stays (tried t) x ≡ true → Trying t (x + 1)
   goes_on more e = record { formed = K.formed; inside = omega arith; stayed = λ y l. same? y x (λ i. rw i e) (λ d. K.stayed y (omega arith)) }
 
   -- where it does not, it is the first that would move
-  pub stops-here : x < t.n → step_stays (tried t) x ≡ false → x ≡ first_to_move t
+  pub stops-here : x < t.n → step_stays (tried t) x ≡ false → first_to_move t ≡ x
   unfolding first_to_move
-  stops-here more e = sym (first-is t.n (λ y. not (step_stays (tried t) y)) x more (ap not e) (λ y l. ap not (K.stayed y l)))
+  stops-here more e = first-is t.n (λ y. not (step_stays (tried t) y)) x more (ap not e) (λ y l. ap not (K.stayed y l))
 
 -- ---- the answer
-module _ (t : Table) (g : ℕ) (e : g ≡ first_refusal (table_rows t)) where
+module _ (t : Table) where
   -- refused, the number
-  pub rest-refused : g ≢ 0 → SaidRest.refused g ≡ rest_answer t
+  pub rest-refused : (r : Refusal) (g : ℕ) → g ≡ number r → number r ≡ first_refusal (table_rows t) → SaidRest.refused g ≡ rest_answer t
   unfolding rest_answer unless
-  rest-refused d = zero_or_not g (λ z. absurd (d z)) (λ k is. rw (sym e, is) refl)
+  rest-refused r g is e = zero_or_not (number r) (λ z. absurd (omega (arith, refusal-numbered r))) (λ k n. rw (sym e, is, n) refl)
 
-  module _ (z : g ≡ 0) (x : ℕ) (first : x ≡ first_to_move t) where
-    -- the thread that would move
-    pub rest-moves : x < t.n → would_move x ≡ rest_answer t
-    unfolding rest_answer unless
-    rest-moves l = rw (sym e ∙ z, sym first) (sym (cond-true _ _ _ (lt-ltb x t.n l)))
-
-    -- or that none would
-    pub rest-stays : t.n ≤ x → resting ≡ rest_answer t
-    unfolding rest_answer unless
-    rest-stays l = rw (sym e ∙ z, sym first) (sym (cond-false _ _ _ (le-ltb x t.n l)))
+  -- else the thread that would move, or that none would
+  pub rest-told : 0 ≡ first_refusal (table_rows t) → (found : Option ℕ) → MatchOption found (first_to_move t ≡ t.n) (λ x. (first_to_move t ≡ x) × (x < t.n)) → said_rest (Ok found) ≡ rest_answer t
+  unfolding rest_answer unless
+  rest-told z None first = rw (sym z, first) (sym (cond-false _ _ _ (le-ltb t.n t.n (omega arith))))
+  rest-told z (Some x) (first, below) = rw (sym z, first) (sym (cond-true _ _ _ (lt-ltb x t.n below)))

@@ -1,10 +1,9 @@
--- For each case of `RestAnswer` the value that it stands for. The promise speaks of these.
+-- For each case of an answer of the rest call the value that it stands for. The promise speaks of these.
+use Rattle.std.specs.Prelude.{ℕ, Option, None, Some, Result, Ok, Err}
 use Rattle.model.specs.Answers.{SaidRest, resting, would_move}
-use Rattle.resting.specs.declared.RestAnswer.{RestAnswer}
-use Rattle.resting.specs.declared.RestAnswer.TheVariants.{Refused, AtRest, WouldMove}
 
--- what each case stands for
-abbrev pub said_rest : RestAnswer → SaidRest
-said_rest (Refused number) = SaidRest.refused number
-said_rest AtRest = resting
-said_rest (WouldMove thread) = would_move thread
+-- what each case stands for: an `Err` has the number of a refusal, and a table of which no thread would move is at rest
+abbrev pub said_rest : Result (Option ℕ) ℕ → SaidRest
+said_rest (Err number) = SaidRest.refused number
+said_rest (Ok None) = resting
+said_rest (Ok (Some thread)) = would_move thread

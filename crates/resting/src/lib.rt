@@ -2,7 +2,7 @@
 
 #![tactic(auto)]
 
-ghost use Rattle.std.specs.Prelude.{◌≡◌, ◌<◌, true, length};
+ghost use Rattle.std.specs.Prelude.{◌≡◌, ◌<◌, true, MatchOption};
 ghost use Rattle.model.specs.Answers.{said};
 ghost use Rattle.model.specs.WellFormed.{well_formed};
 ghost use Rattle.model.specs.Rest.{stays, step_stays, tried, first_to_move, rest_answer};
@@ -10,36 +10,14 @@ ghost use Rattle.resting.specs.Said.{said_rest};
 
 use model::{Answer, Table};
 
-// What the rest call answers.
-#[derive(Clone, Copy)]
-pub enum RestAnswer {
-    Refused(u8),
-    AtRest,
-    WouldMove(u8),
-}
-
 // Whether a step that answers this has stayed: idle, held, wants or asleep.
 fn has_stayed(answer: Answer) -> bool
     ensures { result ≡ stays (said answer) }
 {
-    match answer {
-        Answer::Refused(_) => false,
-        Answer::Accepted => false,
-        Answer::Marked => false,
-        Answer::NothingToCancel => false,
-        Answer::Moved => false,
-        Answer::Idle => true,
-        Answer::Held => true,
-        Answer::Wants => true,
-        Answer::Asleep => true,
-    }
-}
-
-// A store for up to 32 threads.
-fn spare_store() -> [u32; 256]
-    ensures { length result ≡ 256 }
-{
-    [0; 256]
+    matches!(
+        answer,
+        Answer::Idle | Answer::Held | Answer::Wants | Answer::Asleep
+    )
 }
 
 // Whether a step of thread x would stay: it is tried on a copy of the table, with a store of its own.
@@ -49,42 +27,27 @@ fn would_stay(table: Table, x: u8) -> bool
     ensures { result ≡ step_stays (tried table) x }
 {
     let words = 8 * (table.n as usize);
-    let mut store = spare_store();
-    let returned = unchecked::step(table, x, &mut store[0..words]);
-    let answer = returned.answer;
-    has_stayed(answer)
+    let mut store = [0; 256];
+    has_stayed(unchecked::step(table, x, &mut store[..words]).answer)
 }
 
-// The lowest thread whose step would move, or N.
-fn first_to_move(table: Table) -> u8
+// The lowest thread whose step would move.
+fn first_to_move(table: Table) -> Option<u8>
     requires { well_formed table ≡ true }
-    ensures { result ≡ first_to_move table }
+    ensures { MatchOption result (first_to_move table ≡ table.n) (λ x. (first_to_move table ≡ x) × (x < table.n)) }
 {
-    let n = table.n;
-    let mut x: u8 = 0;
-    let first = loop {
-        if n <= x {
-            break n;
-        }
+    for x in 0..table.n {
         if !would_stay(table, x) {
-            break x;
+            return Some(x);
         }
-        x += 1;
-    };
-    first
+    }
+    None
 }
 
-// The rest call: whether every thread's step would stay, or else which is the lowest whose would not.
-pub fn rest(table: Table) -> RestAnswer
+// The rest call: the lowest thread whose step would move, or none where the table is at rest.
+pub fn rest(table: Table) -> Result<Option<u8>, u8>
     ensures { said_rest result ≡ rest_answer table }
 {
-    let number = refusals::table_refusal(table);
-    if number != 0 {
-        return RestAnswer::Refused(number);
-    }
-    let first = first_to_move(table);
-    if first < table.n {
-        return RestAnswer::WouldMove(first);
-    }
-    RestAnswer::AtRest
+    refusals::table_refusal(table)?;
+    Ok(first_to_move(table))
 }

@@ -9,31 +9,14 @@ ghost use Rattle.searches.specs.Said.{said_search};
 use model::Table;
 use queues::Found;
 
-// What the search call answers.
-#[derive(Clone, Copy)]
-pub enum SearchAnswer {
-    Refused(u8),
-    NotReceiving,
-    Searched(Found),
-}
-
-// The search call: what a thread that is receiving finds in its queue.
-pub fn search(table: Table, thread: u8) -> SearchAnswer
+// The search call: what a thread finds in its queue, or nothing to tell where it is not receiving.
+pub fn search(table: Table, thread: u8) -> Result<Option<Found>, u8>
     ensures { said_search result ≡ search_answer table thread }
 {
-    let first = refusals::table_refusal(table);
-    if first != 0 {
-        return SearchAnswer::Refused(first);
-    }
-    let second = refusals::number_refusal(table.n, thread);
-    if second != 0 {
-        return SearchAnswer::Refused(second);
-    }
-    let i = thread as usize;
-    let own = table.threads[i];
+    refusals::numbered_call_refusal(table, thread)?;
+    let own = table.threads[thread as usize];
     if !own.flags.receiving {
-        return SearchAnswer::NotReceiving;
+        return Ok(None);
     }
-    let found = queues::first_acceptable(own);
-    SearchAnswer::Searched(found)
+    Ok(Some(queues::first_acceptable(own)))
 }

@@ -1,6 +1,6 @@
 // How many lists of steps end how: a line for each combination of codes that some list ends with.
 use crate::lines::tell_answer;
-use counts::{Counted, count_endings};
+use counts::count_endings;
 use digits::code_of;
 use model::{Answer, Table};
 use text::{NEWLINE, SPACE, Text};
@@ -42,17 +42,13 @@ fn tell_refused(out: &mut Text, answer: Answer, counts: &[u32]) {
 }
 
 // What a count answered: the length used and how many lines follow, and these; or a refusal.
-fn tell_counted(out: &mut Text, n: u8, counted: Counted, counts: &[u32]) {
-    if let Answer::Refused(_) = counted.answer {
-        return tell_refused(out, counted.answer, counts);
-    }
+fn tell_counted(out: &mut Text, n: u8, counted: Result<u8, u8>, counts: &[u32]) {
+    let length = match counted {
+        Err(number) => return tell_refused(out, Answer::Refused(number), counts),
+        Ok(length) => length,
+    };
     let lines = counts.iter().filter(|count| **count != 0).count();
-    out.numbers(
-        b"length ",
-        u64::from(counted.length),
-        b" lines ",
-        lines as u64,
-    );
+    out.numbers(b"length ", u64::from(length), b" lines ", lines as u64);
     tell_endings(out, n, counts);
 }
 

@@ -7,7 +7,6 @@ ghost use Rattle.telling.specs.Texts.{rest_text};
 
 use crate::lines::{tell_answer, tell_word};
 use model::{Answer, Table};
-use resting::RestAnswer;
 use text::{NEWLINE, Text};
 
 // That a thread would move.
@@ -24,9 +23,9 @@ fn tell_rest(out: &mut Text, table: Table)
     ensures { out.new ≡ written (rest_text (rest_answer table)) out.old }
 {
     match resting::rest(table) {
-        RestAnswer::Refused(number) => tell_answer(out, Answer::Refused(number)),
-        RestAnswer::AtRest => tell_word(out, b"at rest"),
-        RestAnswer::WouldMove(x) => tell_mover(out, x),
+        Err(number) => tell_answer(out, Answer::Refused(number)),
+        Ok(None) => tell_word(out, b"at rest"),
+        Ok(Some(x)) => tell_mover(out, x),
     }
 }
 

@@ -8,7 +8,6 @@ ghost use Rattle.telling.specs.Texts.{sender_text, search_text};
 use crate::lines::{tell_answer, tell_word};
 use model::{Answer, Table};
 use queues::Found;
-use searches::SearchAnswer;
 use text::{NEWLINE, SPACE, Text};
 use threads::{NOBODY, WORD_LIMIT};
 
@@ -62,9 +61,9 @@ fn tell_search(out: &mut Text, table: Table, x: u8)
     ensures { out.new ≡ written (search_text (search_answer table x)) out.old }
 {
     match searches::search(table, x) {
-        SearchAnswer::Refused(number) => tell_answer(out, Answer::Refused(number)),
-        SearchAnswer::NotReceiving => tell_word(out, b"not receiving"),
-        SearchAnswer::Searched(found) => tell_found(out, found),
+        Err(number) => tell_answer(out, Answer::Refused(number)),
+        Ok(None) => tell_word(out, b"not receiving"),
+        Ok(Some(found)) => tell_found(out, found),
     }
 }
 

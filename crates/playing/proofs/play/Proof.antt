@@ -14,6 +14,8 @@ use Rattle.laws.proofs.Schedule.{lawful-long}
 use Rattle.laws.proofs.Groups.{without-rules}
 use Rattle.unchecked.proofs.Stepped.{slice-eight, in_array, queue-fits, held_stays, other-in-array, slice-ends, fits-here, ending-waits, stepped_on, stepped-to-end}
 use Rattle.unchecked.proofs.Performed.{tick-performed, none-ticked, one-more-ticked, all-ticked, begin-words, begin-leaves, joined-in_array, joined-room}
+use Rattle.refusals.specs.Numbers.{number_of}
+use Rattle.refusals.proofs.Laws.{some-refused, none-refused}
 use Rattle.playing.proofs.Records.{must_begin}
 use Rattle.playing.proofs.Turns.{from_place, Goes, goes_first, goes_last, goes_further, few-threads, head-there, record_within, records-fit, refused-fit, fewer-left}
 use Rattle.playing.proofs.Ways.{tick-runs, step-runs, begin-runs, way_tick, way_beyond, way_step, way_owned, way_cancel, way_refused, way_begin}
@@ -216,21 +218,21 @@ asks a = a.before.before
 
 -- the number that they give, whatever the rules
 unruled-rows : (a : Asked) → let b = beginning (asks a) in
-    a.begin_refusal.result ≡ first_refusal (unruled_rows Main (was b).table (x b) a.before.operation_at-op.result)
+    number_of a.begin_refusal.result ≡ first_refusal (unruled_rows Main (was b).table (x b) a.before.operation_at-op.result)
 unfolding at
 unruled-rows a = a.begin_refusal.ensures _ (sized (beginning (asks a))) refl
 
 -- no rules are loaded, so it is the number of all rows
 rows : (a : Asked) → let b = beginning (asks a) in
-    a.begin_refusal.result ≡ first_refusal (begin_rows Main (was b).table (x b) a.before.operation_at-op.result)
+    number_of a.begin_refusal.result ≡ first_refusal (begin_rows Main (was b).table (x b) a.before.operation_at-op.result)
 rows a = let b = beginning (asks a) in unruled-rows a ∙ sym (without-rules Main (was b).table (x b) _ (top (turn (measured b))).loop-record.invariant.unruled)
 
 -- none refuses it
 abbrev Begins : Type 0
-Begins = tie.Else-begin_refusal-ne0 invariant-loop2 decreases-loop2 invariant-loop decreases-loop
+Begins = tie.Else-is_err invariant-loop2 decreases-loop2 invariant-loop decreases-loop
 
 abbrev asked : Begins → Asked
-asked g = g.before
+asked g = g.before.before.before
 
 abbrev starting : Begins → Below
 starting g = beginning (asks (asked g))
@@ -239,7 +241,7 @@ starting g = beginning (asks (asked g))
 accepted : (g : Begins) → refusal (begin (x (starting g)) (asked g).before.operation_at-op.result) (was (starting g)) ≡ 0
 accepted g =
     let b = starting g in let t = turn (measured b) in
-    begin-runs (top t).loop-record.invariant (good t) b.if-n-x.false _ _ (rows (asked g)) g.if-begin_refusal-ne0.false
+    begin-runs (top t).loop-record.invariant (good t) b.if-n-x.false _ _ (rows (asked g)) (none-refused _ (sym g.before.is_err.ensures.0 ∙ g.if-is_err.false))
 
 -- the thread whose queue is joined is known
 abbrev Joins : Type 0
@@ -366,11 +368,11 @@ operation-at-requires c κs =
     let b = beginning c in let t = turn (measured b) in
     (must_begin _ (good t) b.before.if-kind-eq-TICK.false c.before.before.if-kind-eq-STEP.false c.if-kind-eq-CANCEL.false, lawful-long _ false (good t))
 
-loop-again-8 : tie.Need-loop-record-preserved-then-begin_refusal-ne0 invariant-loop2 decreases-loop2 invariant-loop decreases-loop
+loop-again-8 : tie.Need-loop-record-preserved-then-is_err invariant-loop2 decreases-loop2 invariant-loop decreases-loop
 loop-again-8 c =
-    let a = c.before in let e = asks a in let b = beginning e in let m = measured b in let t = turn m in
+    let a = c.before.before.before in let e = asks a in let b = beginning e in let m = measured b in let t = turn m in
     way_refused (top t).loop-record.invariant (good t) (to m) (passes m) b.if-n-x.false
-    b.before.if-kind-eq-TICK.false e.before.before.if-kind-eq-STEP.false e.if-kind-eq-CANCEL.false _ a.before.operation_at-op.ensures _ (rows a) c.if-begin_refusal-ne0.true
+    b.before.if-kind-eq-TICK.false e.before.before.if-kind-eq-STEP.false e.if-kind-eq-CANCEL.false _ a.before.operation_at-op.ensures _ (rows a) (some-refused _ (sym c.before.is_err.ensures.0 ∙ c.if-is_err.true))
 
 join-queue-requires : tie.Need-join_queue-requires invariant-loop2 decreases-loop2 invariant-loop decreases-loop
 unfolding at
@@ -384,7 +386,7 @@ loop-again-9 c =
     let q = joined c in let j = joins q in let g = begins j in
     let a = asked g in let e = asks a in let b = beginning e in let m = measured b in let t = turn m in
     way_begin (top t).loop-record.invariant (good t) (to m) (passes m) b.if-n-x.false
-    b.before.if-kind-eq-TICK.false e.before.before.if-kind-eq-STEP.false e.if-kind-eq-CANCEL.false _ a.before.operation_at-op.ensures _ (rows a) g.if-begin_refusal-ne0.false _ _ _
+    b.before.if-kind-eq-TICK.false e.before.before.if-kind-eq-STEP.false e.if-kind-eq-CANCEL.false _ a.before.operation_at-op.ensures _ (rows a) (none-refused _ (sym g.before.is_err.ensures.0 ∙ g.if-is_err.false)) _ _ _
     (begin-leaves _ _ _ (accepted g) _ j.before.before.before.zero_thread.ensures _ (sized b) _ _ _
     q.join_queue.ensures c.begin_own.ensures j.joined_thread-j.ensures)
 
@@ -466,9 +468,9 @@ play_spec =
     (λ c. own-there (cancelling (cancels c)))
     (λ c. fewer (measured (cancelling (cancels c)))) loop-again-7
     -- a begin
-    operation-at-requires (λ c κs. search rules)
-    (λ c. omega (arith, one_more (measured (beginning (asks c.before)))))
-    (λ c. fewer (measured (beginning (asks c.before)))) loop-again-8
+    operation-at-requires (λ c κs. search rules) (λ c κs. search rules)
+    (λ c. omega (arith, one_more (measured (beginning (asks c.before.before.before)))))
+    (λ c. fewer (measured (beginning (asks c.before.before.before)))) loop-again-8
     (λ c κs. begin-words _ _ _ (accepted c.before))
     (λ c κs. search rules) (λ c. search rules)
     (λ c. omega (arith, joined-there c)) joined-there
