@@ -6,8 +6,7 @@ ghost use Rattle.telling.specs.Texts.{sender_text, search_text};
 
 use crate::lines::{put_line, put_word};
 use model::{Answer, Outcome, Table};
-use queues::Found;
-use searches::SearchAnswer;
+use searches::{Found, SearchAnswer};
 use text::{put_byte, put_number, put_text, put_words};
 use threads::{NOBODY, WORD_LIMIT};
 
