@@ -1,6 +1,5 @@
 -- What the functions on two threads promise: what the model's action does, as a few fields that are set or as an ending.
-use Rattle.std.specs.Prelude.{◌≡◌, Bool, true, false, ℕ}
-use Rattle.std.proofs.Math.Option.{Option, none, some}
+use Rattle.std.specs.Prelude.{◌≡◌, ℕ, Option, Some, None}
 use Rattle.model.specs.declared.Thread.{Thread}
 use Rattle.model.specs.declared.Answer.{Answer}
 use Rattle.model.specs.Answers.{replied, said}
@@ -8,10 +7,10 @@ use Rattle.model.specs.Codes.{receive_time_over, send_time_over, receive_cancell
 use Rattle.model.specs.Step.{Action, abort_send, finish_call, finish_send, abort_receive, reply_of, own_after, other_after}
 use Rattle.actions.specs.declared.Change.{Change}
 use Rattle.actions.specs.declared.Ending.{Ending}
-use Rattle.actions.specs.declared.Ending.TheVariants.{Nothing, SendCancelled, SendTimeOver, CallFinished, SendFinished, ReceiveCancelled, ReceiveTimeOver}
+use Rattle.actions.specs.declared.Ending.TheVariants.{SendCancelled, SendTimeOver, CallFinished, SendFinished, ReceiveCancelled, ReceiveTimeOver}
 
 -- no field of threads h and r is set, with this answer and ending
-unfoldable pub keeping : Answer → Ending → Thread → Thread → Change
+unfoldable pub keeping : Answer → Option Ending → Thread → Thread → Change
 keeping answer ending h r = record {
   answer = answer;
   ending = ending;
@@ -51,27 +50,21 @@ other_changed c r = record {
   waking = r.waking;
 }
 
--- the action that ends something
-abbrev pub ending_action : Ending → Option Action
-ending_action Nothing = none
-ending_action SendCancelled = some (abort_send send_cancelled)
-ending_action SendTimeOver = some (abort_send send_time_over)
-ending_action CallFinished = some finish_call
-ending_action SendFinished = some finish_send
-ending_action ReceiveCancelled = some (abort_receive receive_cancelled)
-ending_action ReceiveTimeOver = some (abort_receive receive_time_over)
+-- the action that ends it
+abbrev pub action_of : Ending → Action
+action_of SendCancelled = abort_send send_cancelled
+action_of SendTimeOver = abort_send send_time_over
+action_of CallFinished = finish_call
+action_of SendFinished = finish_send
+action_of ReceiveCancelled = abort_receive receive_cancelled
+action_of ReceiveTimeOver = abort_receive receive_time_over
 
--- it is there
-abbrev pub ends : Option Action → Bool
-ends none = false
-ends (some a) = true
-
--- action a of thread x, which was h, with r for the other thread, is told by c: it is the ending, or the fields are what it sets
-abbrev pub Told : Action → ℕ → Thread → Thread → Change → Option Action → Type 0
-Told a x h r c none = (own_changed c h ≡ own_after a h) × (other_changed c r ≡ other_after a x h r)
-Told a x h r c (some b) = b ≡ a
+-- action a of thread x, which was h, with r for the other thread, is told by c: it is that of the ending, or the fields are what it sets
+abbrev pub Told : Action → ℕ → Thread → Thread → Change → Option Ending → Type 0
+Told a x h r c None = (own_changed c h ≡ own_after a h) × (other_changed c r ≡ other_after a x h r)
+Told a x h r c (Some e) = action_of e ≡ a
 
 -- action a of thread x, which was h, with r for the other thread
 pub record Acted (a : Action) (x : ℕ) (h r : Thread) (c : Change) : Type 0 where
-  pub told : Told a x h r c (ending_action c.ending)
+  pub told : Told a x h r c c.ending
   pub answers : said c.answer ≡ replied (reply_of a)

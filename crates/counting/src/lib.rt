@@ -18,23 +18,20 @@ fn try_step(table: Few, x: u8, left: u8, counts: &mut [u32])
     try_next(table, x + 1, left, counts);
     let i = x as usize;
     let own = table.threads[i];
-    let other_number = phases::other_number(own);
-    let j = unchecked::other_or_own(other_number, x) as usize;
+    let o = phases::other_number(own);
+    let j = o.unwrap_or(x) as usize;
     let other = table.threads[j];
-    let change = few::change_of(x, other_number, own, other);
-    let ending = change.ending;
-    if actions::is_ending(ending) {
+    let change = few::change_of(x, o, own, other);
+    if let Some(ending) = change.ending {
         let both = endings::end_threads(x, ending, own, other);
-        let mine = both.own;
-        let theirs = both.other;
-        let p = few::place_with(table, i, mine, j, theirs);
+        let p = few::place_with(table, i, both.own, j, both.other);
         if left == 1 {
             counts[p] += 1;
             return;
         }
         let mut next = table;
-        next.threads[j] = theirs;
-        next.threads[i] = mine;
+        next.threads[j] = both.other;
+        next.threads[i] = both.own;
         next.place = p as u16;
         try_next(next, 0, left - 1, counts);
         return;
@@ -43,8 +40,7 @@ fn try_step(table: Few, x: u8, left: u8, counts: &mut [u32])
         counts[table.place as usize] += 1;
         return;
     }
-    let answer = change.answer;
-    if few::changes_nothing(answer) {
+    if few::changes_nothing(change.answer) {
         try_next(table, 0, left - 1, counts);
         return;
     }

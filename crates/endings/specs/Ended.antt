@@ -5,7 +5,7 @@ use Rattle.model.specs.Lists.{occurs}
 use Rattle.model.specs.Queues.{senders}
 use Rattle.model.specs.Step.{Action, own_after, other_after}
 use Rattle.actions.specs.declared.Ending.{Ending}
-use Rattle.actions.specs.declared.Ending.TheVariants.{Nothing, SendCancelled, SendTimeOver, CallFinished, SendFinished, ReceiveCancelled, ReceiveTimeOver}
+use Rattle.actions.specs.declared.Ending.TheVariants.{SendCancelled, SendTimeOver, CallFinished, SendFinished, ReceiveCancelled, ReceiveTimeOver}
 use Rattle.endings.specs.declared.Pair.{Pair}
 
 -- the two threads after action a of thread x, which was h, with r for the other thread
@@ -20,7 +20,6 @@ pub record Waits (x : ℕ) (r : Thread) : Type 0 where
 
 -- a send part ends, and so its sender leaves the target's queue
 abbrev pub ends_send : Ending → Bool
-ends_send Nothing = false
 ends_send SendCancelled = true
 ends_send SendTimeOver = true
 ends_send CallFinished = true

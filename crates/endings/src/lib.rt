@@ -1,12 +1,11 @@
 // The endings of a step: each takes the stepped thread and the other one, and returns both as the ending leaves them.
 
-#![tactic(auto)]
+#![tactic(auto, unfolding(model::specs::Step::own_after, model::specs::Step::other_after, model::specs::Step::received))]
 
 ghost use Rattle.std.specs.Prelude.{◌≡◌, true, ℕ};
-ghost use Rattle.std.proofs.Math.Option.{some};
 ghost use Rattle.model.specs.declared.Thread.{Thread};
-ghost use Rattle.model.specs.Step.{Action, received, abort_send, finish_call, finish_send, abort_receive};
-ghost use Rattle.actions.specs.Acted.{ending_action};
+ghost use Rattle.model.specs.Step.{received, abort_send, finish_call, finish_send, abort_receive};
+ghost use Rattle.actions.specs.Acted.{action_of};
 ghost use Rattle.endings.specs.Ended.{Ended, Waits, ends_send};
 
 use actions::Ending;
@@ -99,13 +98,9 @@ fn abort_receive(code: i32, own: Thread, other: Thread) -> Pair
 // Both threads after an ending.
 pub fn end_threads(x: u8, ending: Ending, own: Thread, other: Thread) -> Pair
     requires { ends_send ending ≡ true → Waits x other }
-    ensures { (a : Action) → ending_action ending ≡ some a → Ended a x own other result }
+    ensures { Ended (action_of ending) x own other result }
 {
     match ending {
-        Ending::Nothing => Pair {
-            own: own,
-            other: other,
-        },
         Ending::SendCancelled => abort_send(x, threads::SEND_CANCELLED, own, other),
         Ending::SendTimeOver => abort_send(x, threads::SEND_TIME_OVER, own, other),
         Ending::CallFinished => finish_call(x, own, other),

@@ -1,5 +1,6 @@
 -- The first four threads of a table of at most four: a step of two of them is the step of the table.
 use Rattle.std.proofs.Common.{◌≡◌, ℕ, zero, suc, ◌*◌, ◌<◌, ◌≤◌, true, List, [], ◌∷◌, map, length, get_or, take, set, replicate, ℤ, sym, refl, ap, ◌∙◌, subst, arith, length-take-le, take_all, get_or-take, eqb-true}
+use Rattle.std.specs.Prelude.{Option, Some, unwrap_or}
 use lib.ListN.{length-replicate, get_or-map}
 use lib.Seq.{take-set-lt, set-get_or, map-set_same}
 use Rattle.model.specs.declared.Outcome.{Outcome}
@@ -10,7 +11,7 @@ use Rattle.model.specs.Threads.{zero_thread, at, put}
 use Rattle.model.specs.Locks.{lock_free}
 use Rattle.model.specs.WellFormed.{is_code}
 use Rattle.model.specs.Phases.{phase_of}
-use Rattle.model.specs.Step.{Action, other, decide_in, decide, own_after, other_after, act}
+use Rattle.model.specs.Step.{Action, decide_in, decide, own_after, other_after, act}
 use Rattle.model.specs.Calls.{step, State}
 use Rattle.model.specs.Counting.{after_step, counted_threads, count_places, place_from, place_of}
 use Rattle.model.specs.Refusals.{refusal}
@@ -22,10 +23,10 @@ use Rattle.laws.proofs.Lists.{cond-false}
 use Rattle.formed.proofs.Formed.{Formed}
 use Rattle.formed.proofs.Facts.{queue-small}
 use Rattle.actions.specs.declared.Change.{Change}
+use Rattle.actions.specs.declared.Ending.{Ending}
 use Rattle.actions.specs.Acted.{own_changed, other_changed, Acted}
 use Rattle.endings.specs.Ended.{Waits, ends_send}
-use Rattle.phases.specs.Fit.{Fit}
-use Rattle.unchecked.specs.Places.{or_own}
+use Rattle.phases.specs.Fit.{partner, Fit}
 use Rattle.unchecked.specs.Runnable.{Checked}
 use Rattle.unchecked.proofs.Kept.{keeps_checked}
 use Rattle.unchecked.proofs.Stepped.{place-below, put_back, decision, fits-here, ending-waits}
@@ -148,13 +149,13 @@ module _ {f : Few} {t : Table} (F : Front f t) where
     after-checked : Checked (after_step x t)
     after-checked = subst Checked (step_any_store t x _ accepted) (keeps_checked (step x) zeros F.checked)
 
-    module _ (o j : ℕ) (finds : o ≡ other own) (reads : j ≡ or_own o x) where
-      finds-front : o ≡ other (at t x)
-      finds-front = finds ∙ ap other own-front
+    module _ (o : Option ℕ) (j : ℕ) (finds : o ≡ partner own) (reads : j ≡ unwrap_or o x) where
+      finds-front : o ≡ partner (at t x)
+      finds-front = finds ∙ ap partner own-front
 
       -- the thread that is read as the other one, by the definition
-      is : j ≡ or_own (other (at t x)) x
-      is = reads ∙ ap (λ (k : ℕ). or_own k x) finds-front
+      is : j ≡ unwrap_or (partner (at t x)) x
+      is = reads ∙ ap (λ (k : Option ℕ). unwrap_or k x) finds-front
 
       other-in-table : j < t.n
       other-in-table = subst (λ (k : ℕ). k < t.n) (sym is) (place-below t formed x in_table)
@@ -174,14 +175,14 @@ module _ {f : Few} {t : Table} (F : Front f t) where
       unfolding decide decide_here lock_free
       decides = by (lock_free (at t x))
           (λ free. let unowned = eqb-true (at t x).owner nobody free in
-          decision t formed x in_table unowned ∙ sym (here-free x (at t x) (at t (or_own (other (at t x)) x)) unowned) ∙ ap (λ (k : ℕ). decide_here x (at t x) (at t k)) (sym is))
+          decision t formed x in_table unowned ∙ sym (here-free x (at t x) (at t (unwrap_or (partner (at t x)) x)) unowned) ∙ ap (λ (k : ℕ). decide_here x (at t x) (at t k)) (sym is))
           (λ held. cond-false _ _ _ held ∙ sym (cond-false _ _ _ held))
 
       -- a send part that ends had its sender in the other thread's queue
-      pub waits_front : (c : Change) → Acted (decide_here x own (get_or f.threads j zero_thread)) x own (get_or f.threads j zero_thread) c → ends_send c.ending ≡ true → Waits x (get_or f.threads j zero_thread)
-      waits_front c acted sends =
-          let free = not-held x own (get_or f.threads j zero_thread) c acted sends in
-          subst (Waits x) (sym other-front) (ending-waits x zeros accepted F.checked.shaped o j finds-front reads (subst (λ (h : Thread). h.owner ≡ nobody) own-front free) c
+      pub waits_front : (e : Ending) (c : Change) → c.ending ≡ Some e → Acted (decide_here x own (get_or f.threads j zero_thread)) x own (get_or f.threads j zero_thread) c → ends_send e ≡ true → Waits x (get_or f.threads j zero_thread)
+      waits_front e c ends acted sends =
+          let free = not-held x own (get_or f.threads j zero_thread) c acted e ends in
+          subst (Waits x) (sym other-front) (ending-waits x zeros accepted F.checked.shaped o j finds-front reads (subst (λ (h : Thread). h.owner ≡ nobody) own-front free) e c ends
           (subst (λ (h : Thread). Acted (decide_in (phase_of h.phase) x h (at t j)) x h (at t j) c) own-front (subst (λ (r : Thread). Acted (decide_in (phase_of own.phase) x own r) x own r c) other-front
           (subst (λ (a : Action). Acted a x own (get_or f.threads j zero_thread) c) (here-free x own (get_or f.threads j zero_thread) free) acted))) sends)
 

@@ -1,6 +1,6 @@
 -- A step of two threads: what it leaves of both, held or not.
-use Rattle.std.proofs.Common.{◌≡◌, ℕ, Bool, true, false, ◌≢◌, ◌⊎◌, sym, refl, ap, ◌∙◌, inl, inr, ⊎_elim, true≢false, eq-eqb, ne_eqb}
-use mathlib.Core.Option.{some}
+use Rattle.std.proofs.Common.{◌≡◌, ℕ, Bool, true, false, ◌≢◌, ◌⊎◌, sym, refl, ap, ◌∙◌, subst, inl, inr, ⊎_elim, true≢false, eq-eqb, ne_eqb}
+use Rattle.std.specs.Prelude.{Some, None}
 use Rattle.model.specs.declared.Thread.{Thread}
 use Rattle.model.specs.declared.Answer.{Answer}
 use Rattle.model.specs.declared.Answer.TheVariants.{Moved}
@@ -13,11 +13,10 @@ use Rattle.model.proofs.Laws.{same?}
 use Rattle.model.proofs.Answers.{said-settles}
 use Rattle.laws.proofs.Lists.{cond-true, cond-false}
 use Rattle.actions.specs.declared.Change.{Change}
-use Rattle.actions.specs.Acted.{own_changed, other_changed, ending_action, ends, Acted}
+use Rattle.actions.specs.Acted.{own_changed, other_changed, action_of, Acted}
 use Rattle.actions.specs.declared.Ending.{Ending}
-use Rattle.actions.specs.declared.Ending.TheVariants.{Nothing, SendCancelled, SendTimeOver, CallFinished, SendFinished, ReceiveCancelled, ReceiveTimeOver}
 use Rattle.actions.proofs.Endings.{ending-moves, told-fields, told-ending}
-use Rattle.endings.specs.Ended.{Ended, ends_send}
+use Rattle.endings.specs.Ended.{Ended}
 use Rattle.few.specs.Front.{changes_nothing, decide_here}
 
 -- an action answers moved, or leaves both threads as they were
@@ -57,16 +56,6 @@ held-not-moved e = true≢false (ap is_held e)
     is_held wants = false
     is_held asleep = false
 
--- what ends a send part ends something
-sends-ends : (e : Ending) → ends_send e ≡ true → ends (ending_action e) ≡ true
-sends-ends Nothing sends = sends
-sends-ends SendCancelled sends = refl
-sends-ends SendTimeOver sends = refl
-sends-ends CallFinished sends = refl
-sends-ends SendFinished sends = refl
-sends-ends ReceiveCancelled sends = refl
-sends-ends ReceiveTimeOver sends = refl
-
 -- thread x, which was h, and the other thread, which was r, are mine and theirs after the step
 pub record Leaves (x : ℕ) (h r mine theirs : Thread) : Type 0 where
   pub own : mine ≡ own_after (decide_here x h r) h
@@ -84,23 +73,23 @@ module _ (x : ℕ) (h r : Thread) where
   here-free free = cond-true _ _ _ (eq-eqb h.owner nobody free)
 
   module _ (c : Change) (acted : Acted (decide_here x h r) x h r c) where
-    -- a thread whose send part ends is not held
-    pub not-held : ends_send c.ending ≡ true → h.owner ≡ nobody
+    -- a thread whose step ends something is not held
+    pub not-held : (e : Ending) → c.ending ≡ Some e → h.owner ≡ nobody
     unfolding reply_of
-    not-held sends = same? h.owner nobody (λ free. free) (λ owned.
-        let ending = told-ending (decide_here x h r) x h r c (ending_action c.ending) (sends-ends c.ending sends) acted.told in
-        absurd (held-not-moved (sym (ap reply_of (here-held owned)) ∙ ending-moves c.ending (decide_here x h r) ending)))
+    not-held e ends = same? h.owner nobody (λ free. free) (λ owned.
+        let told = told-ending (decide_here x h r) x h r c e ends acted.told in
+        absurd (held-not-moved (sym (ap reply_of (here-held owned)) ∙ sym (ap reply_of told) ∙ ending-moves e)))
 
     -- what a step leaves that ends something
-    pub leaves-ended : (mine theirs : Thread) → true ≡ ends (ending_action c.ending) → ((a : Action) → ending_action c.ending ≡ some a → Ended a x h r (record { own = mine; other = theirs })) → Leaves x h r mine theirs
-    leaves-ended mine theirs over ended =
-        let both = ended (decide_here x h r) (told-ending (decide_here x h r) x h r c (ending_action c.ending) (sym over) acted.told) in
+    pub leaves-ended : (mine theirs : Thread) (e : Ending) → c.ending ≡ Some e → Ended (action_of e) x h r (record { own = mine; other = theirs }) → Leaves x h r mine theirs
+    leaves-ended mine theirs e ends ended =
+        let both = subst (λ (a : Action). Ended a x h r (record { own = mine; other = theirs })) (told-ending (decide_here x h r) x h r c e ends acted.told) ended in
         record { own = both.own; other = both.other }
 
-    module _ (goes : false ≡ ends (ending_action c.ending)) where
+    module _ (goes : c.ending ≡ None) where
       -- what one leaves that ends nothing
       pub leaves-changed : Leaves x h r (own_changed c h) (other_changed c r)
-      leaves-changed = let fields = told-fields (decide_here x h r) x h r c (ending_action c.ending) (sym goes) acted.told in record { own = fields.0; other = fields.1 }
+      leaves-changed = let fields = told-fields (decide_here x h r) x h r c goes acted.told in record { own = fields.0; other = fields.1 }
 
       -- by its answer it may leave both as they were
       pub leaves-same : changes_nothing c.answer ≡ true → Leaves x h r h r

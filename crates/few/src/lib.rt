@@ -27,18 +27,13 @@ pub fn few_of(table: Table) -> Few
     requires n_le_counted_threads { table.n ≤ counted_threads }
     ensures { Whole result table }
 {
-    let first = table.threads[0];
-    let second = table.threads[1];
-    let third = table.threads[2];
-    let fourth = table.threads[3];
-    let unplaced = Few {
+    let [first, second, third, fourth, ..] = table.threads;
+    let mut few = Few {
         n: table.n,
         threads: [first, second, third, fourth],
         place: 0,
     };
-    let outcomes = outcomes_of(unplaced);
-    let mut few = unplaced;
-    few.place = digits::place(table.n, outcomes) as u16;
+    few.place = digits::place(table.n, outcomes_of(few)) as u16;
     few
 }
 
@@ -46,15 +41,8 @@ pub fn few_of(table: Table) -> Few
 fn outcomes_of(few: Few) -> [Outcome; 4]
     ensures { result ≡ outcomes_in few }
 {
-    let first = few.threads[0];
-    let second = few.threads[1];
-    let third = few.threads[2];
-    let fourth = few.threads[3];
-    let a = first.outcome;
-    let b = second.outcome;
-    let c = third.outcome;
-    let d = fourth.outcome;
-    [a, b, c, d]
+    let [first, second, third, fourth] = few.threads;
+    [first.outcome, second.outcome, third.outcome, fourth.outcome]
 }
 
 // The place of their codes with own for thread i and other for thread j.
@@ -65,15 +53,13 @@ pub fn place_with(few: Few, i: usize, own: Thread, j: usize, other: Thread) -> u
     ensures small { result < count_places }
 {
     let mut outcomes = outcomes_of(few);
-    let theirs = other.outcome;
-    outcomes[j] = theirs;
-    let mine = own.outcome;
-    outcomes[i] = mine;
+    outcomes[j] = other.outcome;
+    outcomes[i] = own.outcome;
     digits::place(few.n, outcomes)
 }
 
-// What a step of thread x changes, with the other thread o, or nobody; its words go nowhere.
-pub fn change_of(x: u8, o: u8, own: Thread, other: Thread) -> Change
+// What a step of thread x changes, with the other thread o, if there is one; its words go nowhere.
+pub fn change_of(x: u8, o: Option<u8>, own: Thread, other: Thread) -> Change
     requires { Fit o own }
     ensures { Acted (decide_here x own other) x own other result }
 {
@@ -88,15 +74,5 @@ pub fn change_of(x: u8, o: u8, own: Thread, other: Thread) -> Change
 pub fn changes_nothing(answer: Answer) -> bool
     ensures { result ≡ changes_nothing answer }
 {
-    match answer {
-        Answer::Refused(_) => true,
-        Answer::Accepted => true,
-        Answer::Marked => true,
-        Answer::NothingToCancel => true,
-        Answer::Moved => false,
-        Answer::Idle => true,
-        Answer::Held => true,
-        Answer::Wants => true,
-        Answer::Asleep => true,
-    }
+    answer != Answer::Moved
 }

@@ -1,1 +1,2 @@
+pub mod Partners
 pub mod Settled

@@ -2,14 +2,16 @@
 
 #![tactic(auto)]
 
-ghost use Rattle.std.specs.Prelude.{◌≡◌, ◌≤◌, length};
+ghost use Rattle.std.specs.Prelude.{◌≡◌, ◌≤◌, length, unwrap_or};
 ghost use Rattle.std.proofs.Math.Option.{none, some};
+ghost use Rattle.model.specs.Codes.{nobody};
 ghost use Rattle.model.specs.Operations.{word_limit};
 ghost use Rattle.model.specs.Phases.{idle, lock, check, copy, release, sleep, look, wake, unlock, phase_of};
 ghost use Rattle.model.specs.Queues.{find_sender};
 ghost use Rattle.model.specs.Step.{other, overdue, decide_in};
 ghost use Rattle.actions.specs.Acted.{Acted};
-ghost use Rattle.phases.specs.Fit.{found_as, LooksOn, Fit, word_added, words_after};
+ghost use Rattle.queues.specs.Options.{as_option};
+ghost use Rattle.phases.specs.Fit.{partner, LooksOn, Fit, word_added, words_after};
 
 use actions::{Change, Ending};
 use model::{Answer, Thread};
@@ -63,13 +65,10 @@ fn in_copy(x: u8, own: Thread, other: Thread, words: &mut [u32]) -> Change
     ensures acted { Acted (decide_in copy x own other) x own other result }
     ensures words { words.new ≡ word_added own words.old }
 {
-    let op = own.op;
-    let send = op.send;
-    if own.copied < send.count {
+    if own.copied < own.op.send.count {
         return actions::copy_word(own, other, words);
     }
-    let receive = op.receive;
-    if threads::has_receive(receive) {
+    if threads::has_receive(own.op.receive) {
         return actions::end_by(Ending::CallFinished, own, other);
     }
     actions::end_by(Ending::SendFinished, own, other)
@@ -79,11 +78,10 @@ fn in_copy(x: u8, own: Thread, other: Thread, words: &mut [u32]) -> Change
 fn in_release(x: u8, own: Thread, other: Thread) -> Change
     ensures { Acted (decide_in release x own other) x own other result }
 {
-    let flags = own.flags;
-    if flags.send {
+    if own.flags.send {
         return actions::free_target(threads::SLEEP, own, other);
     }
-    if flags.ipc {
+    if own.flags.ipc {
         return actions::free_target(threads::LOOK, own, other);
     }
     actions::free_target(threads::IDLE, own, other)
@@ -93,35 +91,27 @@ fn in_release(x: u8, own: Thread, other: Thread) -> Change
 fn in_sleep(x: u8, own: Thread, other: Thread) -> Change
     ensures { Acted (decide_in sleep x own other) x own other result }
 {
-    let flags = own.flags;
-    if !flags.poll {
-        return actions::try_again(own, other);
-    }
-    if flags.mark {
-        return actions::try_again(own, other);
-    }
-    if own.left == 0 {
+    if !own.flags.poll || own.flags.mark || own.left == 0 {
         return actions::try_again(own, other);
     }
     actions::stay_with(Answer::Asleep, own, other)
 }
 
-// Look: with o for the first acceptable sender, or nobody.
-fn in_look(x: u8, o: u8, own: Thread, other: Thread) -> Change
-    requires { find_sender own ≡ found_as o }
+// Look: with o for the first acceptable sender, if there is one.
+fn in_look(x: u8, o: Option<u8>, own: Thread, other: Thread) -> Change
+    requires { o ≡ as_option (find_sender own) }
     ensures { Acted (decide_in look x own other) x own other result }
 {
-    let flags = own.flags;
-    if !flags.ipc {
+    if !own.flags.ipc {
         return actions::go_idle(own, other);
     }
-    if flags.mark {
+    if own.flags.mark {
         return actions::end_by(Ending::ReceiveCancelled, own, other);
     }
-    if o == threads::NOBODY {
-        return look_alone(x, own, other);
+    match o {
+        None => look_alone(x, own, other),
+        Some(s) => look_at_sender(x, s, own, other),
     }
-    look_at_sender(x, o, own, other)
 }
 
 // Look, and no sender is acceptable.
@@ -136,13 +126,12 @@ fn look_alone(x: u8, own: Thread, other: Thread) -> Change
 }
 
 // Whether a receive's time is a limit and is over.
+#[tactic(auto, unfolding(model::specs::Step::overdue, model::specs::Times::is_hard))]
 fn is_overdue(own: Thread) -> bool
     ensures { result ≡ overdue own }
 {
-    let op = own.op;
-    let receive = op.receive;
-    let code = threads::receive_time(receive);
-    (FIRST_HARD <= code) & (code <= LAST_HARD) & (own.left == 0)
+    let code = threads::receive_time(own.op.receive);
+    (FIRST_HARD..=LAST_HARD).contains(&code) & (own.left == 0)
 }
 
 // Look, and the first acceptable sender is s: it does not count once a limit is over.
@@ -176,35 +165,31 @@ fn in_unlock(x: u8, own: Thread, other: Thread) -> Change
     actions::free_sender(own, other)
 }
 
-// The number of the one other thread that a step reads or changes, or nobody.
-pub fn other_number(own: Thread) -> u8
+// The number of the one other thread that a step reads or changes, if there is one.
+// Kept, the phases by their numbers: a table can have any in `phase`, and a step with another than these is one of a thread that is idle.
+pub fn other_number(own: Thread) -> Option<u8>
     requires { own.queue.len ≤ 32 }
-    ensures { result ≡ other own }
+    ensures partner { result ≡ partner own }
+    ensures number { unwrap_or result nobody ≡ other own }
 {
-    let op = own.op;
-    let send = op.send;
-    let phase = own.phase;
-    match phase {
-        threads::LOCK => send.target,
-        threads::CHECK => send.target,
-        threads::COPY => send.target,
-        threads::RELEASE => send.target,
+    match own.phase {
+        threads::LOCK | threads::CHECK | threads::COPY | threads::RELEASE => Some(
+            own.op.send.target,
+        ),
         threads::LOOK => queues::first_acceptable(own).sender,
-        threads::WAKE => own.waking,
-        threads::UNLOCK => own.waking,
-        _ => threads::NOBODY,
+        threads::WAKE | threads::UNLOCK => Some(own.waking),
+        _ => None,
     }
 }
 
-// A step of thread x, whose lock is free, with the other thread o and its eight words.
-pub fn step_threads(x: u8, o: u8, own: Thread, other: Thread, words: &mut [u32]) -> Change
+// A step of thread x, whose lock is free, with the other thread o, if there is one, and its eight words.
+pub fn step_threads(x: u8, o: Option<u8>, own: Thread, other: Thread, words: &mut [u32]) -> Change
     requires fit { Fit o own }
     requires words_len { length words.old ≡ 8 }
     ensures acted { Acted (decide_in (phase_of own.phase) x own other) x own other result }
     ensures words { words.new ≡ words_after own words.old }
 {
-    let phase = own.phase;
-    match phase {
+    match own.phase {
         threads::IDLE => in_idle(x, own, other),
         threads::LOCK => in_lock(x, own, other),
         threads::CHECK => in_check(x, own, other),

@@ -1,24 +1,26 @@
 -- The loop that plays a schedule on: what holds at each turn, and that each way through a turn keeps it.
-use Rattle.std.proofs.Common.{◌≡◌, ℕ, zero, suc, ◌+◌, ◌-◌, ◌<◌, ◌≤◌, Bool, true, false, eqb, ◌≢◌, List, length, take, drop, sym, refl, ap, ◌∙◌, subst, arith, length-drop, length-take-le, take_all}
+use Rattle.std.proofs.Common.{◌≡◌, ℕ, zero, suc, ◌+◌, ◌-◌, ◌<◌, ◌≤◌, Bool, true, false, cond, eqb, ne_eqb, List, length, take, drop, sym, refl, ap, ◌∙◌, subst, arith, length-drop, length-take-le, take_all}
+use native.Mathlib.Nat.{add-zero}
 use Rattle.model.specs.declared.Record.{Record}
 use Rattle.model.specs.declared.Rules.{Rules}
 use Rattle.model.specs.declared.Table.{Table}
-use Rattle.model.specs.declared.Answer.{Answer}
 use Rattle.model.specs.Calls.{Call, State}
 use Rattle.model.specs.Refusals.{refusal, unless}
-use Rattle.model.specs.Promise.{state, next, Promise}
+use Rattle.model.specs.Promise.{state}
 use Rattle.model.specs.RecordBytes.{is_begin, step_kind, cancel_kind, kind_byte, record_length, lawful}
 use Rattle.model.specs.Decoding.{front, record_of}
 use Rattle.model.specs.Bondtrace.{call_of, Tally, tally, record_played}
 use Rattle.model.proofs.Laws.{by}
 use Rattle.model.proofs.Tested.{formed-few}
-use Rattle.laws.proofs.Calls.{refused-next, rules_after}
+use Rattle.laws.proofs.Calls.{rules_after}
 use Rattle.laws.proofs.Schedule.{record_head, lawful-long, lawful-head-long}
 use Rattle.pieces.specs.Playing.{Progress, played_on, whole_record}
 use Rattle.pieces.proofs.Playing.{PlayedTo, played-to-none, played-to-more, played-to-end}
 use Rattle.unchecked.specs.Runnable.{Runnable}
-use Rattle.unchecked.proofs.Kept.{keeps_runnable, keeps_size, keeps_rules}
+use Rattle.invariant.proofs.Frames.{next-size, next-rules}
+use Rattle.unchecked.proofs.Kept.{next-runnable}
 use Rattle.opening.specs.declared.Playback.{Playback}
+use Rattle.playing.specs.Record.{Ready, Plays}
 use Rattle.playing.specs.Playback.{tally_of, Playable, PlayPromise, Carries}
 
 -- the bytes from a place on, as the code has them
@@ -29,27 +31,19 @@ from_place bytes at = take (length bytes - at) (drop at bytes)
 pub left_there : (bytes : List ℕ) (at : ℕ) → from_place bytes at ≡ drop at bytes
 left_there bytes at = take_all (length bytes - at) (drop at bytes) (omega (arith, length-drop at bytes))
 
--- ---- one record played
-module _ (item : Record) (p : Tally) (c : Call) (is : call_of item ≡ c) where
-  -- by the call that it makes
-  played_as : (k : ℕ) → unless (refusal c p.now) (λ g. 1) 0 ≡ k → record_played item p ≡ record { now = next c p.now; records = p.records + 1; refused = p.refused + k }
-  unfolding record_played
-  played_as k counts = ap (λ (m : Call). record { now = next m p.now; records = p.records + 1; refused = p.refused + unless (refusal m p.now) (λ g. 1) 0 }) is
-      ∙ ap (λ (m : ℕ). record { now = next c p.now; records = p.records + 1; refused = p.refused + m }) counts
+-- ---- one record played, by what is told of it
+-- it is counted as refused unless it is accepted
+counts-refused : (g : ℕ) (accepted : Bool) → accepted ≡ eqb g 0 → ◌≡◌ {A = ℕ} (unless g (λ k. 1) 0) (cond accepted 0 1)
+unfolding unless
+counts-refused zero accepted e = rw e refl
+counts-refused (suc g) accepted e = rw (e ∙ ne_eqb (suc g) 0 (λ z. omega arith)) refl
 
-  -- a call that is accepted
-  played-accepted : refusal c p.now ≡ 0 → record_played item p ≡ record { now = next c p.now; records = p.records + 1; refused = p.refused }
-  unfolding unless
-  played-accepted e = played_as 0 (rw e refl) ∙ ap (λ (k : ℕ). record { now = next c p.now; records = p.records + 1; refused = k }) (omega arith)
-
-  -- a call that is refused
-  played-refused : refusal c p.now ≢ 0 → record_played item p ≡ record { now = p.now; records = p.records + 1; refused = p.refused + 1 }
-  unfolding unless
-  played-refused d = go (refusal c p.now) refl
-    where
-      go : (g : ℕ) → refusal c p.now ≡ g → record_played item p ≡ record { now = p.now; records = p.records + 1; refused = p.refused + 1 }
-      go zero e = absurd (d e)
-      go (suc g) e = played_as 1 (rw e refl) ∙ ap (λ (s : State). record { now = s; records = p.records + 1; refused = p.refused + 1 }) (refused-next c p.now g e)
+record-told : (bytes : List ℕ) (p : Tally) (accepted : Bool) (after : State) → Plays bytes p.now accepted after
+    → record_played (record_of (front bytes)) p ≡ record { now = after; records = p.records + 1; refused = p.refused + cond accepted 0 1 }
+unfolding record_played
+record-told bytes p accepted after P =
+    ap (λ (s : State). record { now = s; records = p.records + 1; refused = p.refused + unless (refusal (call_of (record_of (front bytes))) p.now) (λ g. 1) 0 }) (sym P.leaves)
+    ∙ ap (λ (k : ℕ). record { now = after; records = p.records + 1; refused = p.refused + k }) (counts-refused (refusal (call_of (record_of (front bytes))) p.now) accepted P.tells)
 
 -- no record loads rules
 record_loads_none : (item : Record) (rules : Rules) → rules_after (call_of item) rules ≡ rules
@@ -128,6 +122,10 @@ module _ {from : Playback} {store₀ bytes : List ℕ} {n : ℕ} {store : List �
     pub records-fit : records + 1 < 18446744073709551616
     records-fit = omega (arith, record_within, record_head (kind_byte rest), G.counted, G.room)
 
+    -- its call may be made
+    pub ready-there : Ready (state now store) rest
+    ready-there = record { runnable = G.runnable; unruled = G.unruled; lawful = good }
+
     -- and one refused call more
     pub refused-fit : refused + 1 < 18446744073709551616
     refused-fit = omega (arith, records-fit, G.fewer)
@@ -137,33 +135,33 @@ module _ {from : Playback} {store₀ bytes : List ℕ} {n : ℕ} {store : List �
       pub fewer-left : length bytes - to < length bytes - at
       fewer-left = omega (arith, record_within, record_head (kind_byte rest), passes)
 
-      -- playing goes on from the tally q
-      pub goes_on : (after : Table) (words : List ℕ) (more : ℕ) → record_played (record_of (front rest)) (tally now store records refused) ≡ tally after words (records + 1) more
-          → Runnable (state after words) → after.rules ≡ now.rules → after.n ≡ n → more ≤ refused + 1 → Goes from store₀ bytes n words after (records + 1) more to
-      goes_on after words more plays runs ruled sized bound = record {
+      -- playing goes on from what the record leaves
+      pub goes_on : (after : Table) (words : List ℕ) (accepted : Bool) → Plays rest (state now store) accepted (state after words) → Goes from store₀ bytes n words after (records + 1) (refused + cond accepted 0 1) to
+      goes_on after words accepted plays = record {
         within = omega (arith, record_within);
-        runnable = runs;
+        runnable = subst Runnable (sym plays.leaves) (next-runnable c (state now store) G.runnable);
         unruled = ap (λ (r : Rules). r.len) ruled ∙ G.unruled;
-        size = sized;
-        same = past_record (tally_of from store₀) (tally now store records refused) (tally after words (records + 1) more) bytes rest at to (left_there bytes at) good passes plays G.same;
-        fewer = omega (arith, G.fewer);
+        size = ap (λ (s : State). s.table.n) plays.leaves ∙ next-size c (state now store) ∙ G.size;
+        same = past_record (tally_of from store₀) (tally now store records refused) (tally after words (records + 1) (refused + cond accepted 0 1)) bytes rest at to (left_there bytes at) good passes
+            (record-told rest (tally now store records refused) accepted (state after words) plays) G.same;
+        fewer = by accepted (λ e. rw e (omega (arith, G.fewer))) (λ e. rw e (omega (arith, G.fewer)));
         counted = omega (arith, G.counted, record_head (kind_byte rest));
         room = G.room;
       }
+        where
+          c : Call
+          c = call_of (record_of (front rest))
 
-      module _ (c : Call) (calls : call_of (record_of (front rest)) ≡ c) where
-        -- a call that is accepted and keeps its promise
-        pub turn_accepted : refusal c (state now store) ≡ 0 → (a : Answer) (after : Table) (words : List ℕ) → Promise c (state now store) a (state after words) → Goes from store₀ bytes n words after (records + 1) refused to
-        turn_accepted e a after words kept = goes_on after words refused
-            (played-accepted (record_of (front rest)) (tally now store records refused) c calls e ∙ ap (λ (s : State). record { now = s; records = records + 1; refused = refused }) (sym kept.leaves))
-            (keeps_runnable c (state now store) a (state after words) kept G.runnable)
-            (keeps_rules c (state now store) a (state after words) kept (ap (λ (d : Call). rules_after d now.rules) (sym calls) ∙ record_loads_none (record_of (front rest)) now.rules))
-            (keeps_size c (state now store) a (state after words) kept ∙ G.size)
-            (omega arith)
+          ruled : after.rules ≡ now.rules
+          ruled = ap (λ (s : State). s.table.rules) plays.leaves ∙ next-rules c (state now store) (record_loads_none (record_of (front rest)) now.rules)
 
-        -- a call that is refused
-        pub turn_refused : refusal c (state now store) ≢ 0 → Goes from store₀ bytes n store now (records + 1) (refused + 1) to
-        turn_refused d = goes_on now store (refused + 1) (played-refused (record_of (front rest)) (tally now store records refused) c calls d) G.runnable refl G.size (omega arith)
+      -- as the code has it: a playback with the table and the counts
+      module _ {after : Table} {words : List ℕ} {accepted : Bool} (plays : Plays rest (state now store) accepted (state after words)) (to_here : Playback) (tables : to_here.table ≡ after) (reads : to_here.records ≡ records) where
+        pub goes-refused : accepted ≡ false → to_here.refused ≡ refused + 1 → Goes from store₀ bytes n words to_here.table (to_here.records + 1) to_here.refused to
+        goes-refused told counts = rw (tables, reads, counts) (rw told at (goes_on after words accepted plays))
+
+        pub goes-accepted : accepted ≡ true → to_here.refused ≡ refused → Goes from store₀ bytes n words to_here.table (to_here.records + 1) to_here.refused to
+        goes-accepted told counts = rw (tables, reads, counts) (rw (told, add-zero) at (goes_on after words accepted plays))
 
   -- ---- the end, where no lawful record stands at the front
   pub goes_last : lawful false (front (from_place bytes at)) ≡ false → (place : ℕ) → place ≡ from.place + at → (bad : Bool) → bad ≡ whole_record (from_place bytes at)

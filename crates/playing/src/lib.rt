@@ -3,10 +3,12 @@
 #![tactic(auto)]
 
 ghost use Rattle.std.specs.Prelude.{◌≡◌, length};
+ghost use Rattle.model.specs.Promise.{state};
 ghost use Rattle.pieces.specs.Playing.{whole_record};
 ghost use Rattle.playing.specs.Playback.{Playable, PlayPromise, Carries};
+ghost use Rattle.playing.specs.Record.{Ready, Plays};
 
-use model::EntryPoint;
+use model::{EntryPoint, Table};
 use opening::Playback;
 
 // How far playing came, and whether an unlawful record stands there.
@@ -20,10 +22,42 @@ pub struct Played {
 fn is_whole(bytes: &[u8]) -> bool
     ensures { result ≡ whole_record bytes.now }
 {
-    if bytes.len() < reading::HEAD_BYTES {
+    bytes.len() >= reading::HEAD_BYTES
+        && bytes.len() >= reading::record_length(bytes[reading::KIND])
+}
+
+// Makes the call of the lawful record at the front of the bytes, and tells whether it was accepted.
+fn play_record(table: &mut Table, store: &mut [u32], bytes: &[u8]) -> bool
+    requires { Ready (state table.old store.old) bytes.now }
+    ensures { Plays bytes.now (state table.old store.old) result (state table.new store.new) }
+{
+    let kind = bytes[reading::KIND];
+    let x = bytes[reading::THREAD];
+    if kind == reading::TICK {
+        unchecked::tick_in(table);
+        return true;
+    }
+    if table.n <= x {
         return false;
     }
-    reading::record_length(bytes[reading::KIND]) <= bytes.len()
+    if kind == reading::STEP {
+        unchecked::step_in(table, x, store);
+        return true;
+    }
+    let own = table.threads[x as usize];
+    if kind == reading::CANCEL {
+        if own.owner != threads::NOBODY {
+            return false;
+        }
+        unchecked::cancel_in(table, x);
+        return true;
+    }
+    let op = reading::operation_at(bytes);
+    if refusals::begin_refusal(EntryPoint::Main, table.n, x, own, op).is_err() {
+        return false;
+    }
+    unchecked::begin_in(table, x, op, store);
+    true
 }
 
 // Plays the lawful records at the front of the bytes, one after the other.
@@ -32,93 +66,19 @@ pub fn play(from: Playback, store: &mut [u32], bytes: &[u8]) -> Played
     ensures played { PlayPromise from store.old bytes.now result.playback store.new result.bad }
     ensures carries { Carries from (length bytes.now) result.playback store.new }
 {
-    let mut now = from.table;
-    let n = now.n;
-    let size = n as usize;
-    let mut records = from.records;
-    let mut refused = from.refused;
+    let mut now = from;
     let mut at: usize = 0;
     while reading::is_lawful(false, &bytes[at..]) {
         let record = &bytes[at..];
-        let kind = record[reading::KIND];
-        let x = record[reading::THREAD];
-        at += reading::record_length(kind);
-        records += 1;
-        // a tick of every thread
-        if kind == reading::TICK {
-            let mut k: usize = 0;
-            while k < size {
-                let h = now.threads[k];
-                now.threads[k] = threads::tick_thread(h);
-                k += 1;
-            }
-            continue;
+        if !play_record(&mut now.table, store, record) {
+            now.refused += 1;
         }
-        // a call of no thread
-        if n <= x {
-            refused += 1;
-            continue;
-        }
-        let i = x as usize;
-        // a step
-        if kind == reading::STEP {
-            let own = now.threads[i];
-            if own.owner != threads::NOBODY {
-                continue;
-            }
-            let other_number = phases::other_number(own);
-            let j = unchecked::other_or_own(other_number, x) as usize;
-            let other = now.threads[j];
-            let start = 8 * j;
-            let end = start + 8;
-            let change = phases::step_threads(x, other_number, own, other, &mut store[start..end]);
-            let ending = change.ending;
-            if actions::is_ending(ending) {
-                let mine = now.threads[i];
-                let theirs = now.threads[j];
-                let both = endings::end_threads(x, ending, mine, theirs);
-                let theirs = both.other;
-                let mine = both.own;
-                now.threads[j] = theirs;
-                now.threads[i] = mine;
-                continue;
-            }
-            now.threads[j] = actions::change_other(change, other);
-            now.threads[i] = actions::change_own(change, own);
-            continue;
-        }
-        // a cancel
-        let own = now.threads[i];
-        if kind == reading::CANCEL {
-            if own.owner != threads::NOBODY {
-                refused += 1;
-                continue;
-            }
-            now.threads[i] = threads::mark_running(own);
-            continue;
-        }
-        // a begin
-        let op = reading::operation_at(record);
-        if refusals::begin_refusal(EntryPoint::Main, n, x, own, op).is_err() {
-            refused += 1;
-            continue;
-        }
-        words::zero_thread(store, x);
-        let j = begins::joined_thread(n, x, op) as usize;
-        let target = now.threads[j];
-        now.threads[j] = begins::join_queue(n, x, op, target);
-        let mine = now.threads[i];
-        now.threads[i] = begins::begin_own(n, op, mine);
+        now.records += 1;
+        at += reading::record_length(record[reading::KIND]);
     }
-    let bad = is_whole(&bytes[at..]);
-    let playback = Playback {
-        table: now,
-        records: records,
-        refused: refused,
-        place: from.place + at as u64,
-    };
+    now.place += at as u64;
     Played {
-        playback: playback,
-        bad: bad,
+        playback: now,
+        bad: is_whole(&bytes[at..]),
     }
 }

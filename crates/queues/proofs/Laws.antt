@@ -5,10 +5,11 @@ use Rattle.std.proofs.lemmas.List.{drop-take}
 use Rattle.std.proofs.lemmas.List.Recursion.{is_position_or_len}
 use Rattle.std.proofs.lemmas.List.Sums.{prefix_len-le-length}
 use Rattle.std.proofs.Math.ListN.{get_elem?}
-use Rattle.std.proofs.Math.Option
+use Rattle.std.specs.Prelude.{Some, None}
 use borrow.Author.Tests.{ltb-false}
 use Rattle.model.specs.Lists.{bit, occurs, without, place_where}
 use Rattle.model.proofs.Laws.{by}
+use Rattle.queues.specs.Options.{as_option}
 use Rattle.queues.specs.Places.{place_of, moved_up}
 
 -- ---- the first place at which a test holds
@@ -24,18 +25,18 @@ place_where_found f q =
 
 -- ---- a place among the first n of a list, read
 -- one of them is read there
-pub read-inside : (l : List ℕ) (n i d : ℕ) → i < n → i < length l → get_or l i 0 ≡ Option.get_or (get_elem? (take n l) i) d
-read-inside [] n i d h long = absurd (omega arith)
-read-inside (a ∷ l) zero i d h long = absurd (omega arith)
-read-inside (a ∷ l) (suc n) zero d h long = refl
-read-inside (a ∷ l) (suc n) (suc i) d h long = read-inside l n i d (omega arith) (omega arith)
+pub read-inside : (l : List ℕ) (n i : ℕ) → i < n → i < length l → Some (get_or l i 0) ≡ as_option (get_elem? (take n l) i)
+read-inside [] n i h long = absurd (omega arith)
+read-inside (a ∷ l) zero i h long = absurd (omega arith)
+read-inside (a ∷ l) (suc n) zero h long = refl
+read-inside (a ∷ l) (suc n) (suc i) h long = read-inside l n i (omega arith) (omega arith)
 
 -- past them there is none
-pub read_past : (l : List ℕ) (n i d : ℕ) → n ≤ i → d ≡ Option.get_or (get_elem? (take n l) i) d
-read_past l zero i d h = refl
-read_past [] (suc n) i d h = refl
-read_past (a ∷ l) (suc n) zero d h = absurd (omega arith)
-read_past (a ∷ l) (suc n) (suc i) d h = read_past l n i d (omega arith)
+pub read_past : (l : List ℕ) (n i : ℕ) → n ≤ i → None ≡ as_option (get_elem? (take n l) i)
+read_past l zero i h = refl
+read_past [] (suc n) i h = refl
+read_past (a ∷ l) (suc n) zero h = absurd (omega arith)
+read_past (a ∷ l) (suc n) (suc i) h = read_past l n i (omega arith)
 
 -- ---- a list with one place gone
 -- what a copy of the places behind p to p leaves

@@ -3,10 +3,9 @@
 #![tactic(auto)]
 
 ghost use Rattle.std.specs.Prelude.{◌≡◌, ◌<◌, ◌≤◌, take};
-ghost use Rattle.std.proofs.Math.Option.{get_or};
 ghost use Rattle.model.specs.Lists.{occurs};
-ghost use Rattle.model.specs.Codes.{nobody};
 ghost use Rattle.model.specs.Queues.{senders, joined, departed, search_place, find_sender, places_read};
+ghost use Rattle.queues.specs.Options.{as_option};
 ghost use Rattle.queues.specs.Places.{place_of, gap_closed};
 
 use model::{Queue, Thread};
@@ -31,17 +30,17 @@ fn search(h: Thread) -> usize
         .unwrap_or(senders.len())
 }
 
-// What a search found: the sender that it settled on, or nobody, and how many queue places it read.
+// What a search found: the sender that it settled on, if there is one, and how many queue places it read.
 #[derive(Clone, Copy)]
 pub struct Found {
-    pub sender: u8,
+    pub sender: Option<u8>,
     pub read: u8,
 }
 
-// The first acceptable sender in the queue, or nobody, and how many places were read up to it.
+// The first acceptable sender in the queue, if there is one, and how many places were read up to it.
 pub fn first_acceptable(h: Thread) -> Found
     requires { h.queue.len ≤ 32 }
-    ensures sender { result.sender ≡ get_or (find_sender h) nobody }
+    ensures sender { result.sender ≡ as_option (find_sender h) }
     ensures read { result.read ≡ places_read h }
 {
     let place = search(h);
@@ -49,14 +48,14 @@ pub fn first_acceptable(h: Thread) -> Found
     let n = queue.len as usize;
     if n <= place {
         return Found {
-            sender: threads::NOBODY,
+            sender: None,
             read: queue.len,
         };
     }
     let items = queue.items;
     let places = (place as u8) + 1;
     Found {
-        sender: items[place],
+        sender: Some(items[place]),
         read: places,
     }
 }

@@ -7,7 +7,14 @@ ghost use Rattle.model.specs.Promise.{search_answer};
 ghost use Rattle.searches.specs.Said.{said_search};
 
 use model::Table;
-use queues::Found;
+
+// What a search found: the sender that it settled on, or 255 for nobody, and how many queue places it read.
+// Kept, no Option: by `search-settles` an answer is settled by what it stands for, and `search_answer` has 255 for nobody.
+#[derive(Clone, Copy)]
+pub struct Found {
+    pub sender: u8,
+    pub read: u8,
+}
 
 // The search call: what a thread finds in its queue, or nothing to tell where it is not receiving.
 pub fn search(table: Table, thread: u8) -> Result<Option<Found>, u8>
@@ -18,5 +25,9 @@ pub fn search(table: Table, thread: u8) -> Result<Option<Found>, u8>
     if !own.flags.receiving {
         return Ok(None);
     }
-    Ok(Some(queues::first_acceptable(own)))
+    let found = queues::first_acceptable(own);
+    Ok(Some(Found {
+        sender: found.sender.unwrap_or(threads::NOBODY),
+        read: found.read,
+    }))
 }

@@ -7,7 +7,7 @@ ghost use Rattle.telling.specs.Texts.{sender_text, search_text};
 
 use crate::lines::{tell_answer, tell_word};
 use model::{Answer, Table};
-use queues::Found;
+use searches::Found;
 use text::{NEWLINE, SPACE, Text};
 use threads::{NOBODY, WORD_LIMIT};
 

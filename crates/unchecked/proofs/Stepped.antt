@@ -1,10 +1,9 @@
 -- A step on two threads of a table and a slice of the store is the step of the table and the store.
-use Rattle.std.specs.Prelude.{◌≡◌, ℕ, ◌+◌, ◌-◌, ◌*◌, ◌<◌, ◌≤◌, true, false, cond, ltb, ◌≢◌, ◌⊎◌, List, length, get_or, set, ℤ}
+use Rattle.std.specs.Prelude.{◌≡◌, Option, Some, None, unwrap_or, ℕ, ◌+◌, ◌-◌, ◌*◌, ◌<◌, ◌≤◌, true, false, cond, ltb, ◌≢◌, ◌⊎◌, List, length, get_or, set, ℤ}
 use mathlib.Core.Path.{refl, sym, ◌∙◌, ap, subst}
 use mathlib.Core.Logic.{inl, inr, ⊎_elim}
 use mathlib.Core.Bool.{false≢true}
-use mathlib.Core.Option
-use mathlib.Core.Option.{Option, none, some}
+use mathlib.Core.Option as maybe
 use native.Mathlib.Omega.{arith}
 use borrow.Author.Tests.{eq-eqb, ne_eqb, ltb-true, ltb-false}
 use borrow.Rule.Slice.PartMut.{mid_of, put_mid, put_same, set_mid_at, mid_len}
@@ -37,25 +36,23 @@ use Rattle.formed.proofs.Neighbours.{below-nobody, number, sends-in_check, sends
 use Rattle.invariant.proofs.Keeps.{found-formed}
 use Rattle.actions.specs.declared.Change.{Change}
 use Rattle.actions.specs.declared.Ending.{Ending}
-use Rattle.actions.specs.declared.Ending.TheVariants.{Nothing, SendCancelled, SendTimeOver, CallFinished, SendFinished, ReceiveCancelled, ReceiveTimeOver}
-use Rattle.actions.specs.Acted.{own_changed, other_changed, ending_action, ends, Told, Acted}
+use Rattle.actions.specs.declared.Ending.TheVariants.{SendCancelled, SendTimeOver, CallFinished, SendFinished, ReceiveCancelled, ReceiveTimeOver}
+use Rattle.actions.specs.Acted.{own_changed, other_changed, action_of, Acted}
 use Rattle.actions.proofs.Endings.{told-fields, told-ending}
 use Rattle.endings.specs.Ended.{Ended, Waits, ends_send}
-use Rattle.phases.specs.Fit.{found_as, Fit, word_added, words_after}
+use Rattle.phases.specs.Fit.{partner, Fit, word_added, words_after}
 use Rattle.laws.proofs.Decisions.{in_number, copy-word, copy-calls, copy-sends}
 use Rattle.phases.proofs.Settled.{words-kept, words_copied}
-use Rattle.unchecked.specs.Places.{or_own}
+use Rattle.phases.proofs.Partners.{partner-in, alone-nobody, partner-unfound, partner-found}
 use Rattle.unchecked.proofs.Performed.{performed}
 
 -- where there is another thread, it is the one that is read
-pub or-other : (o x n : ℕ) → n ≤ nobody → o < n → or_own o x ≡ o
-unfolding or_own
-or-other o x n few h = cond-false _ _ _ (ne_eqb o nobody (λ e. omega arith))
+read-other : (o : Option ℕ) (x k : ℕ) → o ≡ Some k → unwrap_or o x ≡ k
+read-other o x k e = ap (λ (q : Option ℕ). unwrap_or q x) e
 
 -- where there is none, the own thread is
-pub or-own : (o x : ℕ) → o ≡ nobody → or_own o x ≡ x
-unfolding or_own
-or-own o x e = cond-true _ _ _ (eq-eqb _ _ e)
+read-own : (o : Option ℕ) (x : ℕ) → o ≡ None → unwrap_or o x ≡ x
+read-own o x e = ap (λ (q : Option ℕ). unwrap_or q x) e
 
 -- ---- what a well-formed table tells of thread x and the other thread of its step
 module _ (t : Table) (F : Formed t.n (at t)) (x : ℕ) (xn : x < t.n) where
@@ -63,91 +60,93 @@ module _ (t : Table) (F : Formed t.n (at t)) (x : ℕ) (xn : x < t.n) where
   abbrev own : Thread
   own = at t x
 
-  -- no other thread matters for the decision
+  -- the thread that a step reads as the other one
+  abbrev place : ℕ
+  place = unwrap_or (partner own) x
+
+  -- there is no other thread, and none matters for the decision
   abbrev Alone : Type 0
-  Alone = (other own ≡ nobody) × ((r q : Thread) → decide_in (phase_of own.phase) x own r ≡ decide_in (phase_of own.phase) x own q)
+  Alone = (partner own ≡ None) × ((r q : Thread) → decide_in (phase_of own.phase) x own r ≡ decide_in (phase_of own.phase) x own q)
+
+  -- there is one, and it is in the table
+  abbrev Beside : Type 0
+  Beside = (partner own ≡ Some (other own)) × (other own < t.n)
 
   -- a phase with no other thread is alone
-  alone_in : (p : Phase) → phase_of own.phase ≡ p → other own ≡ nobody → ((r q : Thread) → decide_in p x own r ≡ decide_in p x own q) → Alone
+  alone_in : (p : Phase) → phase_of own.phase ≡ p → partner own ≡ None → ((r q : Thread) → decide_in p x own r ≡ decide_in p x own q) → Alone
   alone_in p e o same = (o, λ r q. ap (λ (k : Phase). decide_in k x own r) e ∙ same r q ∙ sym (ap (λ (k : Phase). decide_in k x own q) e))
 
   -- a look that finds no sender decides by the thread alone
-  look-alone : (r : Thread) → find_sender own ≡ none → decide_in look x own r ≡ cond own.flags.ipc (cond own.flags.mark (abort_receive receive_cancelled) (look_at own own none)) to_idle
+  look-alone : (r : Thread) → find_sender own ≡ maybe.none → decide_in look x own r ≡ cond own.flags.ipc (cond own.flags.mark (abort_receive receive_cancelled) (look_at own own maybe.none)) to_idle
   unfolding decide_in look_at
-  look-alone r e = ap (λ (o : Option ℕ). cond own.flags.ipc (cond own.flags.mark (abort_receive receive_cancelled) (look_at own r o)) to_idle) e
+  look-alone r e = ap (λ (o : maybe.Option ℕ). cond own.flags.ipc (cond own.flags.mark (abort_receive receive_cancelled) (look_at own r o)) to_idle) e
+
+  -- a phase with one is beside it
+  beside_in : (k : ℕ) → partner own ≡ Some k → other own ≡ k → k < t.n → Alone ⊎ Beside
+  beside_in k e is below = inr (rw is (e, below))
 
   -- in look the other thread is a queued sender, or there is none
-  look-other : phase_of own.phase ≡ look → (o : Option ℕ) → find_sender own ≡ o → Alone ⊎ (other own < t.n)
-  look-other e none f = inl (alone_in look e (other-in own look e ∙ ap (λ (o : Option ℕ). Option.get_or o nobody) f) (λ r q. look-alone r f ∙ sym (look-alone q f)))
-  look-other e (some s) f = inr (rw (other-in own look e ∙ ap (λ (o : Option ℕ). Option.get_or o nobody) f) (queued-sends F x s xn (found-queued own s f)).0)
+  look-other : phase_of own.phase ≡ look → (o : maybe.Option ℕ) → find_sender own ≡ o → Alone ⊎ Beside
+  look-other e maybe.none f = inl (alone_in look e (partner-unfound own e f) (λ r q. look-alone r f ∙ sym (look-alone q f)))
+  look-other e (maybe.some s) f = beside_in s (partner-found own e s f) (other-in own look e ∙ ap (λ (o : maybe.Option ℕ). maybe.get_or o nobody) f) (queued-sends F x s xn (found-queued own s f)).0
 
   -- the other thread of a step is in the table, or there is none
-  pub other-or-alone : Alone ⊎ (other own < t.n)
+  pub other-or-alone : Alone ⊎ Beside
   unfolding decide_in
   other-or-alone = go (phase_of own.phase) refl
     where
-      go : (p : Phase) → phase_of own.phase ≡ p → Alone ⊎ (other own < t.n)
-      go idle e = inl (alone_in idle e (other-in own idle e) (λ r q. refl))
-      go lock e = inr (rw (other-in own lock e) (target-in_lock F x xn e).below)
-      go check e = inr (rw (other-in own check e) (target-in_check F x xn e).below)
-      go copy e = inr (rw (other-in own copy e) (target-in_copy F x xn e).below)
-      go release e = inr (rw (other-in own release e) (target-in_release F x xn e).below)
-      go sleep e = inl (alone_in sleep e (other-in own sleep e) (λ r q. refl))
+      go : (p : Phase) → phase_of own.phase ≡ p → Alone ⊎ Beside
+      go idle e = inl (alone_in idle e (partner-in own idle e) (λ r q. refl))
+      go lock e = beside_in _ (partner-in own lock e) (other-in own lock e) (target-in_lock F x xn e).below
+      go check e = beside_in _ (partner-in own check e) (other-in own check e) (target-in_check F x xn e).below
+      go copy e = beside_in _ (partner-in own copy e) (other-in own copy e) (target-in_copy F x xn e).below
+      go release e = beside_in _ (partner-in own release e) (other-in own release e) (target-in_release F x xn e).below
+      go sleep e = inl (alone_in sleep e (partner-in own sleep e) (λ r q. refl))
       go look e = look-other e (find_sender own) refl
-      go wake e = inr (rw (other-in own wake e) (woken_in_wake F x xn e).below)
-      go unlock e = inr (rw (other-in own unlock e) (woken_in_unlock F x xn e).below)
-      go unknown e = inl (alone_in unknown e (other-in own unknown e) (λ r q. refl))
+      go wake e = beside_in _ (partner-in own wake e) (other-in own wake e) (woken_in_wake F x xn e).below
+      go unlock e = beside_in _ (partner-in own unlock e) (other-in own unlock e) (woken_in_unlock F x xn e).below
+      go unknown e = inl (alone_in unknown e (partner-in own unknown e) (λ r q. refl))
 
   -- the thread that is read as the other one is in the table
-  pub place-below : or_own (other own) x < t.n
-  place-below = ⊎_elim (λ a. rw (or-own (other own) x a.0) xn) (λ l. rw (or-other (other own) x t.n (below-nobody F) l) l) other-or-alone
+  pub place-below : place < t.n
+  place-below = ⊎_elim (λ a. rw (read-own (partner own) x a.0) xn) (λ l. rw (read-other (partner own) x _ l.0) l.1) other-or-alone
 
   -- a thread that sends to its other thread waits there
-  waits-at : (p : Phase) → phase_of own.phase ≡ p → own.flags.send ≡ true → other own ≡ own.op.send.target → own.op.send.target < t.n → Waits x (at t (or_own (other own) x))
-  waits-at p e sends is below =
-      rw (ap (λ (o : ℕ). or_own o x) is ∙ or-other own.op.send.target x t.n (below-nobody F) below)
+  waits-at : own.flags.send ≡ true → partner own ≡ Some own.op.send.target → own.op.send.target < t.n → Waits x (at t place)
+  waits-at sends is below =
+      rw (read-other (partner own) x _ is)
       (record { few = queue-small (F.own own.op.send.target below); there = queued-at-target F x xn sends })
 
-  -- what the search has found is the other thread
-  found-other : phase_of own.phase ≡ look → (o : Option ℕ) → find_sender own ≡ o → find_sender own ≡ found_as (other own)
-  unfolding found_as
-  found-other e none f = f ∙ sym (cond-true _ _ _ (eq-eqb (other own) nobody (other-in own look e ∙ ap (λ (o : Option ℕ). Option.get_or o nobody) f)))
-  found-other e (some s) f =
-      let is : other own ≡ s = other-in own look e ∙ ap (λ (o : Option ℕ). Option.get_or o nobody) f in
-      let below = (queued-sends F x s xn (found-queued own s f)).0 in
-      let few = below-nobody F in
-      f ∙ sym (ap (λ (o : ℕ). found_as o) is ∙ cond-false _ _ _ (ne_eqb s nobody (λ k. omega arith)))
-
   -- so does one in check
-  pub waits-in-check : phase_of own.phase ≡ check → Waits x (at t (or_own (other own) x))
-  waits-in-check e = waits-at check e (sends-in_check F x xn e) (other-in own check e) (target-in_check F x xn e).below
+  pub waits-in-check : phase_of own.phase ≡ check → Waits x (at t place)
+  waits-in-check e = waits-at (sends-in_check F x xn e) (partner-in own check e) (target-in_check F x xn e).below
 
   -- and one in copy
-  pub waits-in-copy : phase_of own.phase ≡ copy → Waits x (at t (or_own (other own) x))
-  waits-in-copy e = waits-at copy e (sends-in_copy F x xn e) (other-in own copy e) (target-in_copy F x xn e).below
+  pub waits-in-copy : phase_of own.phase ≡ copy → Waits x (at t place)
+  waits-in-copy e = waits-at (sends-in_copy F x xn e) (partner-in own copy e) (target-in_copy F x xn e).below
 
   -- the step on two threads has what it relies on
-  pub fits : Fit (other own) own
+  pub fits : Fit (partner own) own
   fits = record {
     counts = λ e. count_small (F.own x xn) (sends-in_copy F x xn e);
-    finds = λ e. found-other e (find_sender own) refl;
+    finds = λ e. partner-in own look e;
   }
 
   -- ---- what the two threads come to in the table
   -- the decision is that of the thread that is read as the other one
-  pub decision : own.owner ≡ nobody → decide t x ≡ decide_in (phase_of own.phase) x own (at t (or_own (other own) x))
+  pub decision : own.owner ≡ nobody → decide t x ≡ decide_in (phase_of own.phase) x own (at t place)
   unfolding decide lock_free
   decision free = cond-true _ _ _ (eq-eqb own.owner nobody free) ∙ ⊎_elim
-      (λ a. a.1 (at t (other own)) (at t (or_own (other own) x)))
-      (λ l. ap (λ (o : ℕ). decide_in (phase_of own.phase) x own (at t o)) (sym (or-other (other own) x t.n (below-nobody F) l)))
+      (λ a. a.1 (at t (other own)) (at t place))
+      (λ l. ap (λ (o : ℕ). decide_in (phase_of own.phase) x own (at t o)) (sym (read-other (partner own) x _ l.0)))
       other-or-alone
 
   -- the two threads put back are the table after the action
-  pub put_back : (a : Action) → length t.threads ≡ 32 → put x (own_after a own) (put (or_own (other own) x) (other_after a x own (at t (or_own (other own) x))) t) ≡ act a x t
+  pub put_back : (a : Action) → length t.threads ≡ 32 → put x (own_after a own) (put place (other_after a x own (at t place)) t) ≡ act a x t
   unfolding act
   put_back a whole = ⊎_elim
-      (λ e. over (or_own (other own) x) (or-own (other own) x e.0) ∙ sym (ap (put x (own_after a own)) (put-nowhere (other own) _ t (out e.0))))
-      (λ l. ap (λ (o : ℕ). put x (own_after a own) (put o (other_after a x own (at t o)) t)) (or-other (other own) x t.n (below-nobody F) l))
+      (λ e. over place (read-own (partner own) x e.0) ∙ sym (ap (put x (own_after a own)) (put-nowhere (other own) _ t (out (alone-nobody own e.0)))))
+      (λ l. ap (λ (o : ℕ). put x (own_after a own) (put o (other_after a x own (at t o)) t)) (read-other (partner own) x _ l.0))
       other-or-alone
     where
       over : (o : ℕ) → o ≡ x → put x (own_after a own) (put o (other_after a x own (at t o)) t) ≡ put x (own_after a own) t
@@ -188,10 +187,10 @@ module _ (x : ℕ) (s : State) (accepted : refusal (step x) s ≡ 0) (shaped : S
       (sym (ap (λ (a : Action). state (act a x before) (store_after a (at before x) s.store)) is ∙ ap (λ (t : Table). state t s.store) (ap (put x (at before x)) (put-own (other (at before x)) before) ∙ put-own x before)))
 
   -- ---- with the other thread's number, as the code has it
-  module _ (o j : ℕ) (finds : o ≡ other (at before x)) (reads : j ≡ or_own o x) where
+  module _ (o : Option ℕ) (j : ℕ) (finds : o ≡ partner (at before x)) (reads : j ≡ unwrap_or o x) where
     -- the thread that is read as the other one, by the definition
-    is : j ≡ or_own (other (at before x)) x
-    is = reads ∙ ap (λ (k : ℕ). or_own k x) finds
+    is : j ≡ unwrap_or (partner (at before x)) x
+    is = reads ∙ ap (λ (k : Option ℕ). unwrap_or k x) finds
 
     -- it is in the table
     other-below : j < before.n
@@ -241,7 +240,7 @@ module _ (x : ℕ) (s : State) (accepted : refusal (step x) s ≡ 0) (shaped : S
         is-target : j ≡ (at before x).op.send.target
         is-target =
             let e = in_number copy (at before x).phase copies in
-            is ∙ ap (λ (k : ℕ). or_own k x) (other-in (at before x) copy e) ∙ or-other (at before x).op.send.target x before.n (below-nobody formed) (target-in_copy formed x below e).below
+            is ∙ read-other (partner (at before x)) x _ (partner-in (at before x) copy e)
 
         -- where no word remains, it leaves the store as it is
         store_finished : (at before x).op.send.count ≤ (at before x).copied → store_after (decide before x) (at before x) s.store ≡ s.store
@@ -284,11 +283,10 @@ module _ (x : ℕ) (s : State) (accepted : refusal (step x) s ≡ 0) (shaped : S
       check-waits code e = rw is (waits-in-check before formed x below (subst (TestedFor before x) (decides ∙ sym e) (decided before x)).0)
 
       -- a send part that ends had its sender in the queue of the thread that is read
-      pub ending-waits : (c : Change) → Acted does x (at before x) (at before j) c → ends_send c.ending ≡ true → Waits x (at before j)
-      ending-waits c acted = go c.ending acted.told
+      pub ending-waits : (e : Ending) (c : Change) → c.ending ≡ Some e → Acted does x (at before x) (at before j) c → ends_send e ≡ true → Waits x (at before j)
+      ending-waits e c ends acted = go e (told-ending does x (at before x) (at before j) c e ends acted.told)
         where
-          go : (e : Ending) → Told does x (at before x) (at before j) c (ending_action e) → ends_send e ≡ true → Waits x (at before j)
-          go Nothing told sends = absurd (false≢true sends)
+          go : (e : Ending) → action_of e ≡ does → ends_send e ≡ true → Waits x (at before j)
           go SendCancelled told sends = check-waits send_cancelled told
           go SendTimeOver told sends = check-waits send_time_over told
           go CallFinished told sends = rw is (waits-in-copy before formed x below (subst (TestedFor before x) (decides ∙ sym told) (decided before x)).0)
@@ -316,15 +314,16 @@ module _ (x : ℕ) (s : State) (accepted : refusal (step x) s ≡ 0) (shaped : S
             ∙ ap (λ (w : List ℕ). state (act (decide before x) x before) w) (ap (put_mid (8 * j) size s.store) copied ∙ store-back))
 
         -- a step that ends nothing, with the fields that are set
-        pub stepped_on : false ≡ ends (ending_action c.ending) → mine ≡ own_changed c (at before x) → theirs ≡ other_changed c (at before j)
+        pub stepped_on : c.ending ≡ None → mine ≡ own_changed c (at before x) → theirs ≡ other_changed c (at before j)
             → Promise (step x) s c.answer (state (put x mine (put j theirs before)) (put_mid (8 * j) size s.store words))
         stepped_on goes own_is other-is =
-            let fields = told-fields does x (at before x) (at before j) c (ending_action c.ending) (sym goes) acted.told in
+            let fields = told-fields does x (at before x) (at before j) c goes acted.told in
             stepped (own_is ∙ fields.0) (other-is ∙ fields.1)
 
         -- a step that ends something, with both threads as the ending leaves them
-        pub stepped-to-end : true ≡ ends (ending_action c.ending) → ((a : Action) → ending_action c.ending ≡ some a → Ended a x (at before x) (at before j) (record { own = mine; other = theirs }))
+        pub stepped-to-end : (e : Ending) → c.ending ≡ Some e → Ended (action_of e) x (at before x) (at before j) (record { own = mine; other = theirs })
             → Promise (step x) s c.answer (state (put x mine (put j theirs before)) (put_mid (8 * j) size s.store words))
-        stepped-to-end over ended =
-            let both = ended does (told-ending does x (at before x) (at before j) c (ending_action c.ending) (sym over) acted.told) in
+        stepped-to-end e ends ended =
+            let is-does = told-ending does x (at before x) (at before j) c e ends acted.told in
+            let both = subst (λ (a : Action). Ended a x (at before x) (at before j) (record { own = mine; other = theirs })) is-does ended in
             stepped both.own both.other

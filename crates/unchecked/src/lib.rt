@@ -5,27 +5,27 @@
 ghost use Rattle.std.specs.Prelude.{◌≡◌, ℕ, List, []};
 ghost use Rattle.model.specs.declared.EntryPoint.TheVariants.{Main};
 ghost use Rattle.model.specs.Threads.{new_thread, new_table};
+ghost use Rattle.model.specs.WellFormed.{Shaped};
 ghost use Rattle.model.specs.Calls.{Call};
 ghost use Rattle.model.specs.Refusals.{refusal};
 ghost use Rattle.model.specs.Promise.{state, Promise};
-ghost use Rattle.unchecked.specs.Places.{or_own};
 
 use model::{Answer, Operation, Queue, Returned, Rules, Table, Thread};
 
 // A thread of a new table.
+#[tactic(auto, unfolding(model::specs::Threads::new_thread))]
 fn new_thread() -> Thread
     ensures { result ≡ new_thread }
 {
-    let queue = Queue {
-        items: [0; 32],
-        len: 0,
-    };
     Thread {
         flags: threads::no_flags(),
         phase: threads::IDLE,
         op: threads::no_operation(),
         left: 0,
-        queue: queue,
+        queue: Queue {
+            items: [0; 32],
+            len: 0,
+        },
         owner: threads::NOBODY,
         outcome: threads::code_only(threads::NEVER_BEGUN),
         copied: 0,
@@ -34,47 +34,95 @@ fn new_thread() -> Thread
 }
 
 // A new table of n threads.
+#[tactic(auto, unfolding(model::specs::Threads::new_table))]
 pub fn new_table(n: u8) -> Table
     ensures { result ≡ new_table n }
 {
-    let h = new_thread();
-    let threads = [h; 32];
-    let rules = rules::no_rules();
     Table {
-        n: n,
-        threads: threads,
-        rules: rules,
+        n,
+        threads: [new_thread(); 32],
+        rules: rules::no_rules(),
     }
 }
 
-// Thread x begins an operation. What the spark entry takes, the main entry takes, and does the same.
-pub fn begin(table: Table, x: u8, op: Operation, store: &mut [u32]) -> Returned
-    requires { refusal (Call.begin_via Main x op) (state table store.old) ≡ 0 }
-    ensures { Promise (Call.begin_via Main x op) (state table store.old) result.answer (state result.table store.new) }
+// Thread x begins an operation, in its table. What the spark entry takes, the main entry takes, and does the same.
+pub fn begin_in(table: &mut Table, x: u8, op: Operation, store: &mut [u32])
+    requires accepted { refusal (Call.begin_via Main x op) (state table.old store.old) ≡ 0 }
+    requires shaped { Shaped table.old }
+    ensures { Promise (Call.begin_via Main x op) (state table.old store.old) Answer.Accepted (state table.new store.new) }
 {
     words::zero_thread(store, x);
     let n = table.n;
     let j = begins::joined_thread(n, x, op) as usize;
-    let mut next = table;
-    let other = next.threads[j];
-    next.threads[j] = begins::join_queue(n, x, op, other);
+    table.threads[j] = begins::join_queue(n, x, op, table.threads[j]);
     let i = x as usize;
-    let own = next.threads[i];
-    next.threads[i] = begins::begin_own(n, op, own);
+    table.threads[i] = begins::begin_own(n, op, table.threads[i]);
+}
+
+// Thread x makes one step, in its table.
+pub fn step_in(table: &mut Table, x: u8, store: &mut [u32]) -> Answer
+    requires accepted { refusal (Call.step x) (state table.old store.old) ≡ 0 }
+    requires shaped { Shaped table.old }
+    ensures { Promise (Call.step x) (state table.old store.old) result (state table.new store.new) }
+{
+    let i = x as usize;
+    let own = table.threads[i];
+    if own.owner != threads::NOBODY {
+        return Answer::Held;
+    }
+    let o = phases::other_number(own);
+    let j = o.unwrap_or(x) as usize;
+    let other = table.threads[j];
+    let start = 8 * j;
+    let end = start + 8;
+    let change = phases::step_threads(x, o, own, other, &mut store[start..end]);
+    if let Some(ending) = change.ending {
+        let both = endings::end_threads(x, ending, own, other);
+        table.threads[j] = both.other;
+        table.threads[i] = both.own;
+        return change.answer;
+    }
+    table.threads[j] = actions::change_other(change, other);
+    table.threads[i] = actions::change_own(change, own);
+    change.answer
+}
+
+// Thread x's operation is to be cancelled, in its table.
+pub fn cancel_in(table: &mut Table, x: u8) -> Answer
+    requires { refusal (Call.cancel x) (state table.old []) ≡ 0 }
+    ensures { (store : List ℕ) → Promise (Call.cancel x) (state table.old store) result (state table.new store) }
+{
+    let i = x as usize;
+    let h = table.threads[i];
+    if !h.flags.ipc {
+        return Answer::NothingToCancel;
+    }
+    table.threads[i] = threads::set_mark(h);
+    Answer::Marked
+}
+
+// Time passes for every running operation of a table.
+pub fn tick_in(table: &mut Table)
+    requires { refusal Call.tick (state table.old []) ≡ 0 }
+    ensures { (store : List ℕ) → Promise Call.tick (state table.old store) Answer.Accepted (state table.new store) }
+{
+    let n = table.n as usize;
+    for i in 0..n {
+        table.threads[i] = threads::tick_thread(table.threads[i]);
+    }
+}
+
+// Thread x begins an operation.
+pub fn begin(table: Table, x: u8, op: Operation, store: &mut [u32]) -> Returned
+    requires { refusal (Call.begin_via Main x op) (state table store.old) ≡ 0 }
+    ensures { Promise (Call.begin_via Main x op) (state table store.old) result.answer (state result.table store.new) }
+{
+    let mut next = table;
+    begin_in(&mut next, x, op, store);
     Returned {
         answer: Answer::Accepted,
         table: next,
     }
-}
-
-// The thread that a step of x reads and writes as the other one: o, or x itself where there is no other.
-pub fn other_or_own(o: u8, x: u8) -> u8
-    ensures { result ≡ or_own o x }
-{
-    if o == threads::NOBODY {
-        return x;
-    }
-    o
 }
 
 // Thread x makes one step.
@@ -82,38 +130,10 @@ pub fn step(table: Table, x: u8, store: &mut [u32]) -> Returned
     requires { refusal (Call.step x) (state table store.old) ≡ 0 }
     ensures { Promise (Call.step x) (state table store.old) result.answer (state result.table store.new) }
 {
-    let i = x as usize;
-    let own = table.threads[i];
-    if own.owner != threads::NOBODY {
-        return Returned {
-            answer: Answer::Held,
-            table: table,
-        };
-    }
-    let other_number = phases::other_number(own);
-    let j = other_or_own(other_number, x) as usize;
-    let other = table.threads[j];
-    let start = 8 * j;
-    let end = start + 8;
-    let change = phases::step_threads(x, other_number, own, other, &mut store[start..end]);
-    let answer = change.answer;
-    let ending = change.ending;
     let mut next = table;
-    if actions::is_ending(ending) {
-        let both = endings::end_threads(x, ending, own, other);
-        let theirs = both.other;
-        let mine = both.own;
-        next.threads[j] = theirs;
-        next.threads[i] = mine;
-        return Returned {
-            answer: answer,
-            table: next,
-        };
-    }
-    next.threads[j] = actions::change_other(change, other);
-    next.threads[i] = actions::change_own(change, own);
+    let answer = step_in(&mut next, x, store);
     Returned {
-        answer: answer,
+        answer,
         table: next,
     }
 }
@@ -124,17 +144,9 @@ pub fn cancel(table: Table, x: u8) -> Returned
     ensures { (store : List ℕ) → Promise (Call.cancel x) (state table store) result.answer (state result.table store) }
 {
     let mut next = table;
-    let i = x as usize;
-    let h = next.threads[i];
-    if h.flags.ipc {
-        next.threads[i] = threads::set_mark(h);
-        return Returned {
-            answer: Answer::Marked,
-            table: next,
-        };
-    }
+    let answer = cancel_in(&mut next, x);
     Returned {
-        answer: Answer::NothingToCancel,
+        answer,
         table: next,
     }
 }
@@ -144,14 +156,8 @@ pub fn tick(table: Table) -> Returned
     requires { refusal Call.tick (state table []) ≡ 0 }
     ensures { (store : List ℕ) → Promise Call.tick (state table store) result.answer (state result.table store) }
 {
-    let n = table.n as usize;
     let mut next = table;
-    let mut i: usize = 0;
-    while i < n {
-        let h = next.threads[i];
-        next.threads[i] = threads::tick_thread(h);
-        i += 1;
-    }
+    tick_in(&mut next);
     Returned {
         answer: Answer::Accepted,
         table: next,
@@ -163,10 +169,8 @@ pub fn load(table: Table, rules: Rules) -> Returned
     requires { refusal (Call.load rules) (state table []) ≡ 0 }
     ensures { (store : List ℕ) → Promise (Call.load rules) (state table store) result.answer (state result.table store) }
 {
-    let mut next = table;
-    next.rules = rules;
     Returned {
         answer: Answer::Accepted,
-        table: next,
+        table: Table { rules, ..table },
     }
 }

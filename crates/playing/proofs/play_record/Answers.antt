@@ -1,0 +1,74 @@
+use Rattle.std.proofs.Common.{false, refl, arith}
+use Rattle.model.specs.Threads.{at}
+use Rattle.laws.proofs.Schedule.{lawful-long, lawful-head-long}
+use Rattle.unchecked.proofs.Stepped.{in_array}
+use Rattle.playing.proofs.Ways.{tick-runs, step-runs, cancel-runs, begin-runs, begins, way_tick, way_beyond, way_step, way_owned, way_cancel, way_refused, way_begin}
+use Rattle.playing.proofs.play_record.Goals as goal
+
+-- the record's head is there
+pub bounds-bytes-2 : goal.bounds-bytes-2
+bounds-bytes-2 c = omega (arith, lawful-head-long _ false c.requires.lawful)
+
+pub bounds-bytes-3 : goal.bounds-bytes-3
+bounds-bytes-3 c = omega (arith, lawful-head-long _ false c.requires.lawful)
+
+-- a tick
+pub tick_in-requires : goal.tick_in-requires
+tick_in-requires c = tick-runs _ _ c.requires
+
+pub returns-then-kind-eq-TICK : goal.returns-then-kind-eq-TICK
+returns-then-kind-eq-TICK c = way_tick _ _ c.requires c.if-kind-eq-TICK.true _ _ (c.tick_in.ensures _)
+
+-- a call of no thread
+pub returns-then-table-x : goal.returns-then-table-x
+returns-then-table-x c = way_beyond _ _ c.requires c.if-kind-eq-TICK.false c.if-table-x.true
+
+-- a step
+pub step_in-requires : goal.step_in-requires
+step_in-requires c = record { accepted = step-runs _ _ c.requires c.if-table-x.false; shaped = c.requires.runnable.checked.shaped }
+
+pub returns-then-kind-eq-STEP : goal.returns-then-kind-eq-STEP
+returns-then-kind-eq-STEP c = way_step _ _ c.requires c.if-table-x.false c.if-kind-eq-STEP.true _ _ c.step_in.ensures
+
+pub bounds-table-x : goal.bounds-table-x
+bounds-table-x c = in_array _ _ (step-runs _ _ c.requires c.if-table-x.false) c.requires.runnable.checked.shaped
+
+-- a cancel
+pub returns-then-own : goal.returns-then-own
+unfolding at
+returns-then-own c = way_owned _ _ c.requires c.if-table-x.false c.if-kind-eq-CANCEL.true c.if-own.true
+
+pub cancel_in-requires : goal.cancel_in-requires
+unfolding at
+cancel_in-requires c = cancel-runs _ _ c.requires c.if-table-x.false _ c.if-own.false
+
+pub returns-then-kind-eq-CANCEL : goal.returns-then-kind-eq-CANCEL
+unfolding at
+returns-then-kind-eq-CANCEL c = way_cancel _ _ c.requires c.if-table-x.false c.if-kind-eq-CANCEL.true c.if-own.false _ _ (c.cancel_in.ensures _)
+
+-- a begin
+pub operation_at-op-requires : goal.operation_at-op-requires
+operation_at-op-requires c = record {
+  bytes_value = begins _ _ c.requires c.if-table-x.false c.if-kind-eq-TICK.false c.if-kind-eq-STEP.false c.if-kind-eq-CANCEL.false;
+  bytes_in_bounds = lawful-long _ false c.requires.lawful;
+}
+
+pub returns-then-begin_refusal-ne0 : goal.returns-then-begin_refusal-ne0
+unfolding at
+returns-then-begin_refusal-ne0 c =
+    way_refused _ _ c.requires c.if-table-x.false c.if-kind-eq-TICK.false c.if-kind-eq-STEP.false c.if-kind-eq-CANCEL.false
+    _ c.operation_at-op.ensures _ (c.begin_refusal.ensures _ refl refl) c.if-begin_refusal-ne0.true
+
+pub begin_in-requires : goal.begin_in-requires
+unfolding at
+begin_in-requires c = record {
+  accepted = begin-runs _ _ c.requires c.if-table-x.false c.if-kind-eq-TICK.false c.if-kind-eq-STEP.false c.if-kind-eq-CANCEL.false
+      _ c.operation_at-op.ensures _ (c.begin_refusal.ensures _ refl refl) c.if-begin_refusal-ne0.false;
+  shaped = c.requires.runnable.checked.shaped;
+}
+
+pub returns : goal.returns
+unfolding at
+returns c =
+    way_begin _ _ c.requires c.if-table-x.false c.if-kind-eq-TICK.false c.if-kind-eq-STEP.false c.if-kind-eq-CANCEL.false
+    _ c.operation_at-op.ensures _ (c.begin_refusal.ensures _ refl refl) c.if-begin_refusal-ne0.false _ _ c.begin_in.ensures
