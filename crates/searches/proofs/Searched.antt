@@ -13,7 +13,7 @@ use Rattle.model.specs.Promise.{search_answer}
 use Rattle.model.proofs.Laws.{all_of-read}
 use Rattle.model.proofs.Tested.{well_formed-told}
 use Rattle.laws.proofs.Lists.{cond-true, cond-false, zero_or_not}
-use Rattle.queues.specs.declared.Found.{Found}
+use Rattle.searches.specs.declared.Found.{Found}
 use Rattle.searches.specs.Said.{said_search}
 use Rattle.refusals.specs.declared.Refusal.{Refusal}
 use Rattle.refusals.specs.Numbers.{number}

@@ -1,7 +1,8 @@
-use Rattle.std.proofs.Common.{false, refl, arith}
+use Rattle.std.proofs.Common.{false, refl, sym, ◌∙◌, arith}
 use Rattle.model.specs.Threads.{at}
 use Rattle.laws.proofs.Schedule.{lawful-long, lawful-head-long}
 use Rattle.unchecked.proofs.Stepped.{in_array}
+use Rattle.refusals.proofs.Laws.{some-refused, none-refused}
 use Rattle.playing.proofs.Ways.{tick-runs, step-runs, cancel-runs, begin-runs, begins, way_tick, way_beyond, way_step, way_owned, way_cancel, way_refused, way_begin}
 use Rattle.playing.proofs.play_record.Goals as goal
 
@@ -53,17 +54,17 @@ operation_at-op-requires c = record {
   bytes_in_bounds = lawful-long _ false c.requires.lawful;
 }
 
-pub returns-then-begin_refusal-ne0 : goal.returns-then-begin_refusal-ne0
+pub returns-then-is_err : goal.returns-then-is_err
 unfolding at
-returns-then-begin_refusal-ne0 c =
+returns-then-is_err c =
     way_refused _ _ c.requires c.if-table-x.false c.if-kind-eq-TICK.false c.if-kind-eq-STEP.false c.if-kind-eq-CANCEL.false
-    _ c.operation_at-op.ensures _ (c.begin_refusal.ensures _ refl refl) c.if-begin_refusal-ne0.true
+    _ c.operation_at-op.ensures _ (c.begin_refusal.ensures _ refl refl) (some-refused _ (sym c.is_err.ensures.value ∙ c.if-is_err.true))
 
 pub begin_in-requires : goal.begin_in-requires
 unfolding at
 begin_in-requires c = record {
   accepted = begin-runs _ _ c.requires c.if-table-x.false c.if-kind-eq-TICK.false c.if-kind-eq-STEP.false c.if-kind-eq-CANCEL.false
-      _ c.operation_at-op.ensures _ (c.begin_refusal.ensures _ refl refl) c.if-begin_refusal-ne0.false;
+      _ c.operation_at-op.ensures _ (c.begin_refusal.ensures _ refl refl) (none-refused _ (sym c.is_err.ensures.value ∙ c.if-is_err.false));
   shaped = c.requires.runnable.checked.shaped;
 }
 
@@ -71,4 +72,4 @@ pub returns : goal.returns
 unfolding at
 returns c =
     way_begin _ _ c.requires c.if-table-x.false c.if-kind-eq-TICK.false c.if-kind-eq-STEP.false c.if-kind-eq-CANCEL.false
-    _ c.operation_at-op.ensures _ (c.begin_refusal.ensures _ refl refl) c.if-begin_refusal-ne0.false _ _ c.begin_in.ensures
+    _ c.operation_at-op.ensures _ (c.begin_refusal.ensures _ refl refl) (none-refused _ (sym c.is_err.ensures.value ∙ c.if-is_err.false)) _ _ c.begin_in.ensures
