@@ -4,8 +4,7 @@ use Rattle.model.specs.declared.Pair.{Pair}
 use Rattle.model.specs.Operations.{word_limit}
 use Rattle.logs.specs.declared.LogEntry.{LogEntry}
 use Rattle.logs.specs.declared.Log.{Log}
-use Rattle.model.specs.Lists.{first_below}
-use Rattle.logs.specs.Comparison.{Logged, entry_at, receive_unsent, log_room}
+use Rattle.logs.specs.Comparison.{Logged, entry_at, log_room}
 
 -- the columns of some entries
 pub record Columns (entries : List Logged) (senders targets : List ℕ) : Type 0 where
@@ -13,10 +12,6 @@ pub record Columns (entries : List Logged) (senders targets : List ℕ) : Type 0
   pub as_many : length targets ≡ length entries
   pub sender : (k : ℕ) → k < length entries → get_or senders k 0 ≡ (entry_at entries k).sender
   pub target : (k : ℕ) → k < length entries → get_or targets k 0 ≡ (entry_at entries k).target
-
--- of two logs with such columns, the first receive whose rank has no send
-abbrev pub FirstUnsent : List ℕ → List ℕ → List ℕ → List ℕ → ℕ → Type 0
-FirstUnsent senders targets sources receivers r = (sends receives : List Logged) → Columns sends senders targets → Columns receives sources receivers → r ≡ first_below (length receives) (receive_unsent sends receives)
 
 -- no entry
 abbrev pub no_entry : LogEntry

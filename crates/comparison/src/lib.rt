@@ -2,12 +2,12 @@
 
 #![tactic(auto)]
 
-ghost use Rattle.std.specs.Prelude.{◌≡◌, not, ◌≤◌, ◌<◌, length, map, unwrap_or, IfSome};
+ghost use Rattle.std.specs.Prelude.{◌≡◌, not, ◌≤◌, length, map};
 ghost use Rattle.model.specs.Operations.{word_limit};
 ghost use Rattle.model.specs.Lists.{first_below};
-ghost use Rattle.logs.specs.Comparison.{logged, entries_of, same_message, send_differs, said_comparison, compare, bad_log, compare_answer};
+ghost use Rattle.logs.specs.Comparison.{logged, entries_of, same_message, send_differs, receive_unsent, said_comparison, compare, bad_log, compare_answer};
 ghost use Rattle.columns.specs.Ranks.{senders_of, targets_of, place_within};
-ghost use Rattle.comparison.specs.Entries.{Columns, FirstUnsent, Good, pair_of};
+ghost use Rattle.comparison.specs.Entries.{Columns, Good, pair_of};
 
 use columns::find_mate;
 use logs::{Compared, Log, LogEntry};
@@ -51,19 +51,24 @@ fn same_message(a: &LogEntry, b: &LogEntry) -> bool
     (a.count == b.count) && (a.words[..count] == b.words[..count])
 }
 
+// A log that is not refused, and its column: the sender and the target of each entry.
+#[derive(Clone, Copy)]
+struct Side<'a> {
+    log: &'a Log,
+    pairs: &'a [Pair],
+    ghost good: { Good log.now },
+    ghost column: { Columns (entries_of log.now) (senders_of pairs.now) (targets_of pairs.now) },
+}
+
 // The first send that differs from the receive of its rank, or has none.
-fn first_send(sends: &Log, receives: &Log, pairs: &[Pair], others: &[Pair]) -> Option<usize>
-    requires good { Good sends.now }
-    requires good_2 { Good receives.now }
-    requires columns { Columns (entries_of sends.now) (senders_of pairs.now) (targets_of pairs.now) }
-    requires columns_2 { Columns (entries_of receives.now) (senders_of others.now) (targets_of others.now) }
-    ensures { result ≡ place_within (length pairs.now) (first_below (length (entries_of sends.now)) (send_differs (entries_of sends.now) (entries_of receives.now))) }
+fn first_send(sends: Side, receives: Side) -> Option<usize>
+    ensures { result ≡ place_within (length sends.entry.pairs.now) (first_below (length (entries_of sends.entry.log.now)) (send_differs (entries_of sends.entry.log.now) (entries_of receives.entry.log.now))) }
 {
-    for i in 0..pairs.len() {
-        let Some(j) = find_mate(pairs, i, others) else {
+    for i in 0..sends.pairs.len() {
+        let Some(j) = find_mate(sends.pairs, i, receives.pairs) else {
             return Some(i);
         };
-        if !same_message(&sends.entries[i], &receives.entries[j]) {
+        if !same_message(&sends.log.entries[i], &receives.log.entries[j]) {
             return Some(i);
         }
     }
@@ -71,30 +76,25 @@ fn first_send(sends: &Log, receives: &Log, pairs: &[Pair], others: &[Pair]) -> O
 }
 
 // The first receive whose rank has no send.
-fn first_receive(pairs: &[Pair], others: &[Pair]) -> Option<usize>
-    ensures first { FirstUnsent (senders_of pairs.now) (targets_of pairs.now) (senders_of others.now) (targets_of others.now) (unwrap_or result (length others.now)) }
-    ensures within { IfSome result (λ j. j < length others.now) }
+fn first_receive(sends: Side, receives: Side) -> Option<usize>
+    ensures { result ≡ place_within (length receives.entry.pairs.now) (first_below (length (entries_of receives.entry.log.now)) (receive_unsent (entries_of sends.entry.log.now) (entries_of receives.entry.log.now))) }
 {
-    for j in 0..others.len() {
-        if find_mate(others, j, pairs).is_none() {
+    for j in 0..receives.pairs.len() {
+        if find_mate(receives.pairs, j, sends.pairs).is_none() {
             return Some(j);
         }
     }
     None
 }
 
-// Compares two logs that are not refused, with their columns.
-fn compare_columns(sends: &Log, receives: &Log, pairs: &[Pair], others: &[Pair]) -> Compared
-    requires good { Good sends.now }
-    requires good_2 { Good receives.now }
-    requires columns { Columns (entries_of sends.now) (senders_of pairs.now) (targets_of pairs.now) }
-    requires columns_2 { Columns (entries_of receives.now) (senders_of others.now) (targets_of others.now) }
-    ensures { said_comparison result ≡ compare (entries_of sends.now) (entries_of receives.now) }
+// Compares the two sides.
+fn compare_sides(sends: Side, receives: Side) -> Compared
+    ensures { said_comparison result ≡ compare (entries_of sends.entry.log.now) (entries_of receives.entry.log.now) }
 {
-    if let Some(i) = first_send(sends, receives, pairs, others) {
+    if let Some(i) = first_send(sends, receives) {
         return Compared::Send(i as u16);
     }
-    if let Some(j) = first_receive(pairs, others) {
+    if let Some(j) = first_receive(sends, receives) {
         return Compared::Receive(j as u16);
     }
     Compared::Agree
@@ -108,9 +108,15 @@ fn compare_good(sends: &Log, receives: &Log) -> Compared
 {
     let sent = pairs_of(sends.entries);
     let received = pairs_of(receives.entries);
-    let pairs = &sent[..sends.len as usize];
-    let others = &received[..receives.len as usize];
-    compare_columns(sends, receives, pairs, others)
+    let ours = Side {
+        log: sends,
+        pairs: &sent[..sends.len as usize],
+    };
+    let theirs = Side {
+        log: receives,
+        pairs: &received[..receives.len as usize],
+    };
+    compare_sides(ours, theirs)
 }
 
 // Compares a log of sends with a log of receives: whether they agree, else the first send that differs, else the first receive that was not sent.
