@@ -57,3 +57,7 @@ unfolding at put
 returns c =
     stepped_on _ _ c.requires.accepted c.requires.shaped _ _ c.other_number-o.ensures.partner c.unwrap_or-j.ensures c.if-own.false
     c.step_threads-change.result c.step_threads-change.ensures.acted _ c.step_threads-change.ensures.words _ _ c.in_default.is c.change_own.ensures c.change_other.ensures
+
+pub bounds-table-j-in-Some-2 : goal.bounds-table-j-in-Some-2
+unfolding at
+bounds-table-j-in-Some-2 c = other-in-array _ _ c.requires.accepted c.requires.shaped _ _ c.other_number-o.ensures.partner c.unwrap_or-j.ensures
