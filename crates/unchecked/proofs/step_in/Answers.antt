@@ -1,8 +1,5 @@
-use Rattle.std.proofs.Common.{◌≡◌, ◌<◌, arith}
-use Rattle.std.specs.Prelude.{unwrap_or}
 use Rattle.model.specs.Threads.{at, put}
-use Rattle.phases.specs.Fit.{partner}
-use Rattle.unchecked.proofs.Stepped.{slice-eight, in_array, queue-fits, held_stays, other-in-array, slice-ends, fits-here, ending-waits, stepped_on, stepped-to-end}
+use Rattle.unchecked.proofs.Stepped.{in_array, queue-fits, held_stays, other-in-array, slice-ends, fits-here, ending-waits, stepped_on, stepped-to-end}
 use Rattle.unchecked.proofs.step_in.Goals as goal
 
 pub bounds-table-i : goal.bounds-table-i
