@@ -1,5 +1,5 @@
 -- What a change tells of its action: the fields that are set, or the ending.
-use Rattle.std.proofs.Common.{◌≡◌, ℕ, sym, refl, ap, ◌∙◌, subst}
+use Rattle.std.proofs.Common.{◌≡◌, ℕ, refl, subst}
 use Rattle.std.specs.Prelude.{Option, Some, None}
 use Rattle.model.specs.declared.Thread.{Thread}
 use Rattle.model.specs.Answers.{moved}
@@ -7,7 +7,7 @@ use Rattle.model.specs.Step.{Action, reply_of, own_after, other_after}
 use Rattle.actions.specs.declared.Change.{Change}
 use Rattle.actions.specs.declared.Ending.{Ending}
 use Rattle.actions.specs.declared.Ending.TheVariants.{SendCancelled, SendTimeOver, CallFinished, SendFinished, ReceiveCancelled, ReceiveTimeOver}
-use Rattle.actions.specs.Acted.{own_changed, other_changed, action_of, Told, Acted}
+use Rattle.actions.specs.Acted.{own_changed, other_changed, action_of, Told}
 
 -- every ending answers moved
 pub ending-moves : (e : Ending) → reply_of (action_of e) ≡ moved

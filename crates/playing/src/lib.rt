@@ -44,16 +44,16 @@ fn play_record(table: &mut Table, store: &mut [u32], bytes: &[u8]) -> bool
         unchecked::step_in(table, x, store);
         return true;
     }
-    let own = table.threads[x as usize];
+    let i = x as usize;
     if kind == reading::CANCEL {
-        if own.owner != threads::NOBODY {
+        if table.threads[i].owner != threads::NOBODY {
             return false;
         }
         unchecked::cancel_in(table, x);
         return true;
     }
     let op = reading::operation_at(bytes);
-    if refusals::begin_refusal(EntryPoint::Main, table.n, x, own, op).is_err() {
+    if refusals::begin_refusal(EntryPoint::Main, table.n, x, table.threads[i], op).is_err() {
         return false;
     }
     unchecked::begin_in(table, x, op, store);

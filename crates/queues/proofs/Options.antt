@@ -1,6 +1,6 @@
 -- What a search finds, as the code tells it and as the model does.
 use Rattle.std.proofs.Common.{◌≡◌, ℕ, refl}
-use Rattle.std.specs.Prelude.{Option, Some, None, unwrap_or}
+use Rattle.std.specs.Prelude.{Some, None, unwrap_or}
 use Rattle.std.proofs.Math.Option as maybe
 use Rattle.queues.specs.Options.{as_option}
 

@@ -1,5 +1,5 @@
 -- A step on two threads of a table and a slice of the store is the step of the table and the store.
-use Rattle.std.specs.Prelude.{◌≡◌, Option, Some, None, unwrap_or, ℕ, ◌+◌, ◌-◌, ◌*◌, ◌<◌, ◌≤◌, true, false, cond, ltb, ◌≢◌, ◌⊎◌, List, length, get_or, set, ℤ}
+use Rattle.std.specs.Prelude.{◌≡◌, Option, Some, None, unwrap_or, ℕ, ◌+◌, ◌-◌, ◌*◌, ◌<◌, ◌≤◌, true, cond, ltb, ◌≢◌, ◌⊎◌, List, length, get_or, set, ℤ}
 use mathlib.Core.Path.{refl, sym, ◌∙◌, ap, subst}
 use mathlib.Core.Logic.{inl, inr, ⊎_elim}
 use mathlib.Core.Bool.{false≢true}
@@ -32,7 +32,7 @@ use Rattle.laws.proofs.Store.{step-store}
 use Rattle.laws.proofs.Refusals.{accepted-step}
 use Rattle.formed.proofs.Facts.{count_small, queue-small}
 use Rattle.formed.proofs.Formed.{Formed}
-use Rattle.formed.proofs.Neighbours.{below-nobody, number, sends-in_check, sends-in_copy, target-in_lock, target-in_check, target-in_copy, target-in_release, woken_in_wake, woken_in_unlock, queued-sends, queued-at-target}
+use Rattle.formed.proofs.Neighbours.{number, sends-in_check, sends-in_copy, target-in_lock, target-in_check, target-in_copy, target-in_release, woken_in_wake, woken_in_unlock, queued-sends, queued-at-target}
 use Rattle.invariant.proofs.Keeps.{found-formed}
 use Rattle.actions.specs.declared.Change.{Change}
 use Rattle.actions.specs.declared.Ending.{Ending}

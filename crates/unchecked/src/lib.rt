@@ -77,7 +77,8 @@ pub fn step_in(table: &mut Table, x: u8, store: &mut [u32]) -> Answer
     let end = start + 8;
     let change = phases::step_threads(x, o, own, other, &mut store[start..end]);
     if let Some(ending) = change.ending {
-        let both = endings::end_threads(x, ending, own, other);
+        // both are read again here, so that a step that ends nothing need not keep them
+        let both = endings::end_threads(x, ending, table.threads[i], table.threads[j]);
         table.threads[j] = both.other;
         table.threads[i] = both.own;
         return change.answer;

@@ -31,21 +31,21 @@ step_in-requires c = record { accepted = step-runs _ _ c.requires c.if-table-x.f
 pub returns-then-kind-eq-STEP : goal.returns-then-kind-eq-STEP
 returns-then-kind-eq-STEP c = way_step _ _ c.requires c.if-table-x.false c.if-kind-eq-STEP.true _ _ c.step_in.ensures
 
-pub bounds-table-x : goal.bounds-table-x
-bounds-table-x c = in_array _ _ (step-runs _ _ c.requires c.if-table-x.false) c.requires.runnable.checked.shaped
+pub bounds-table-i : goal.bounds-table-i
+bounds-table-i c = in_array _ _ (step-runs _ _ c.requires c.if-table-x.false) c.requires.runnable.checked.shaped
 
 -- a cancel
-pub returns-then-own : goal.returns-then-own
+pub returns-then-table-i : goal.returns-then-table-i
 unfolding at
-returns-then-own c = way_owned _ _ c.requires c.if-table-x.false c.if-kind-eq-CANCEL.true c.if-own.true
+returns-then-table-i c = way_owned _ _ c.requires c.if-table-x.false c.if-kind-eq-CANCEL.true c.if-table-i.true
 
 pub cancel_in-requires : goal.cancel_in-requires
 unfolding at
-cancel_in-requires c = cancel-runs _ _ c.requires c.if-table-x.false _ c.if-own.false
+cancel_in-requires c = cancel-runs _ _ c.requires c.if-table-x.false _ c.if-table-i.false
 
 pub returns-then-kind-eq-CANCEL : goal.returns-then-kind-eq-CANCEL
 unfolding at
-returns-then-kind-eq-CANCEL c = way_cancel _ _ c.requires c.if-table-x.false c.if-kind-eq-CANCEL.true c.if-own.false _ _ (c.cancel_in.ensures _)
+returns-then-kind-eq-CANCEL c = way_cancel _ _ c.requires c.if-table-x.false c.if-kind-eq-CANCEL.true c.if-table-i.false _ _ (c.cancel_in.ensures _)
 
 -- a begin
 pub operation_at-op-requires : goal.operation_at-op-requires
@@ -73,3 +73,6 @@ unfolding at
 returns c =
     way_begin _ _ c.requires c.if-table-x.false c.if-kind-eq-TICK.false c.if-kind-eq-STEP.false c.if-kind-eq-CANCEL.false
     _ c.operation_at-op.ensures _ (c.begin_refusal.ensures _ refl refl) (none-refused _ (sym c.is_err.ensures.value ∙ c.if-is_err.false)) _ _ c.begin_in.ensures
+
+pub bounds-table-i-2 : goal.bounds-table-i-2
+bounds-table-i-2 c = in_array _ _ (step-runs _ _ c.requires c.if-table-x.false) c.requires.runnable.checked.shaped

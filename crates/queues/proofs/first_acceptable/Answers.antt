@@ -1,4 +1,4 @@
-use Rattle.std.proofs.Common.{◌≡◌, ◌≤◌, ◌<◌, length, sym, ◌∙◌, arith, rules}
+use Rattle.std.proofs.Common.{◌≤◌, ◌<◌, length, sym, ◌∙◌, arith, rules}
 use Rattle.model.specs.Queues.{senders, search_place, find_sender}
 use Rattle.laws.proofs.Queues.{senders-length}
 use Rattle.laws.proofs.Search.{places-to, places-all}

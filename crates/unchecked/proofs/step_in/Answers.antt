@@ -1,8 +1,5 @@
-use Rattle.std.proofs.Common.{◌≡◌, ◌<◌, arith}
-use Rattle.std.specs.Prelude.{unwrap_or}
 use Rattle.model.specs.Threads.{at, put}
-use Rattle.phases.specs.Fit.{partner}
-use Rattle.unchecked.proofs.Stepped.{slice-eight, in_array, queue-fits, held_stays, other-in-array, slice-ends, fits-here, ending-waits, stepped_on, stepped-to-end}
+use Rattle.unchecked.proofs.Stepped.{in_array, queue-fits, held_stays, other-in-array, slice-ends, fits-here, ending-waits, stepped_on, stepped-to-end}
 use Rattle.unchecked.proofs.step_in.Goals as goal
 
 pub bounds-table-i : goal.bounds-table-i
@@ -57,3 +54,7 @@ unfolding at put
 returns c =
     stepped_on _ _ c.requires.accepted c.requires.shaped _ _ c.other_number-o.ensures.partner c.unwrap_or-j.ensures c.if-own.false
     c.step_threads-change.result c.step_threads-change.ensures.acted _ c.step_threads-change.ensures.words _ _ c.in_default.is c.change_own.ensures c.change_other.ensures
+
+pub bounds-table-j-in-Some-2 : goal.bounds-table-j-in-Some-2
+unfolding at
+bounds-table-j-in-Some-2 c = other-in-array _ _ c.requires.accepted c.requires.shaped _ _ c.other_number-o.ensures.partner c.unwrap_or-j.ensures

@@ -1,4 +1,4 @@
-use Rattle.std.proofs.Common.{◌≤◌, arith}
+use Rattle.std.proofs.Common.{arith}
 use Rattle.model.specs.Threads.{at, put}
 use Rattle.unchecked.proofs.Performed.{accepted-few, tick-performed, none-ticked, one-more-ticked, all-ticked}
 use Rattle.unchecked.proofs.tick_in.Goals as goal
