@@ -1,6 +1,6 @@
 // The commands that lend a store, records or places, note a row of rules, or set a field by force, as no call would.
 use crate::sessions::{Reply, Session, only_text};
-use commands::Parsed;
+use commands::{Asked, Reason};
 use forcing::{byte_at, number_at};
 use model::{Range, Rule};
 use telling::put_word;
@@ -8,35 +8,20 @@ use telling::put_word;
 // A session and the word `lent`.
 fn lent(session: Session, out: &mut [u8]) -> Reply {
     let end = put_word(out, b"lent");
-    Reply {
-        session: session,
-        end: end,
-    }
+    Reply { session, end }
 }
 
 // A session and the word `set`.
 fn was_set(session: Session, out: &mut [u8]) -> Reply {
     let end = put_word(out, b"set");
-    Reply {
-        session: session,
-        end: end,
-    }
-}
-
-// The same in every word.
-pub fn spread(store: &mut [u32], word: u32) {
-    let mut i: usize = 0;
-    while i < store.len() {
-        store[i] = word;
-        i += 1;
-    }
+    Reply { session, end }
 }
 
 // From now on a store of so many words, each the same, is lent.
 pub fn store(session: Session, named: &[u32], store: &mut [u32], out: &mut [u8]) -> Reply {
     let mut next = session;
     next.words = number_at(named, 0) as usize;
-    spread(store, number_at(named, 1));
+    store.fill(number_at(named, 1));
     lent(next, out)
 }
 
@@ -70,8 +55,8 @@ fn row_of(named: &[u32]) -> Rule {
         to: byte_at(named, 3),
     };
     Rule {
-        senders: senders,
-        targets: targets,
+        senders,
+        targets,
         permits: number_at(named, 4) == 1,
     }
 }
@@ -79,43 +64,35 @@ fn row_of(named: &[u32]) -> Rule {
 // A row for the next loading.
 pub fn rule(session: Session, number: u64, named: &[u32], out: &mut [u8]) -> Reply {
     let mut noted = session.noted;
-    let count = noted.len;
-    if MOST_NOTED <= count {
-        let end = replies::put_error(out, 0, number, replies::ROWS_FULL, b"");
+    if MOST_NOTED <= noted.len {
+        let end = replies::put_error(out, 0, number, Reason::RowsFull, b"");
         return only_text(session, end);
     }
-    if count < MOST_KEPT {
-        let k = count as usize;
-        noted.rows[k] = row_of(named);
+    if noted.len < MOST_KEPT {
+        noted.rows[noted.len as usize] = row_of(named);
     }
-    noted.len = count + 1;
+    noted.len += 1;
     let mut next = session;
     next.noted = noted;
     let end = put_word(out, b"noted");
-    Reply {
-        session: next,
-        end: end,
-    }
+    Reply { session: next, end }
 }
 
 // The table's N.
 pub fn size(session: Session, named: &[u32], out: &mut [u8]) -> Reply {
-    let mut table = session.table;
-    table.n = byte_at(named, 0);
     let mut next = session;
-    next.table = table;
+    next.table.n = byte_at(named, 0);
     was_set(next, out)
 }
 
 // A field of a thread of the array.
-pub fn set(session: Session, command: Parsed, named: &[u32], out: &mut [u8]) -> Reply {
+pub fn set(session: Session, command: Asked, named: &[u32], out: &mut [u8]) -> Reply {
     let x = number_at(named, 0) as usize;
     let mut table = session.table;
-    let mut next = session;
     if x < 32 {
-        let thread = table.threads[x];
-        table.threads[x] = forcing::changed(thread, command, named);
+        table.threads[x] = forcing::changed(table.threads[x], command, named);
     }
+    let mut next = session;
     next.table = table;
     was_set(next, out)
 }

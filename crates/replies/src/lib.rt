@@ -5,60 +5,49 @@
 ghost use Rattle.std.specs.Prelude.{◌≡◌, ◌≤◌, length, drop};
 ghost use Rattle.language.specs.Words.{words};
 ghost use Rattle.language.specs.Commands.{reason_text};
+ghost use Rattle.letters.specs.Measured.{number_of};
 ghost use Rattle.text.specs.Writing.{Written};
 ghost use Rattle.replies.specs.Replied.{names_word, named_word, error_text, behind_spaces, joined_words, said_text};
 
+use letters::Reason;
 use scanning::next_word;
 use text::{NEWLINE, SPACE, put_byte, put_number, put_text};
 
-// Why a command is no line of a schedule.
-pub const NOT_RECORD: u8 = 10;
-
-pub const TABLE_FIRST: u8 = 11;
-
-// Why a row of rules is not kept.
-pub const ROWS_FULL: u8 = 13;
-
-// Why an entry of a log is not.
-pub const LOG_FULL: u8 = 14;
-
 // A reason in plain words.
-fn put_reason(out: &mut [u8], start: usize, reason: u8) -> usize
-    ensures { Written start (reason_text reason) out.old out.new result }
+fn text_of(reason: Reason) -> &'static [u8]
+    ensures { result.now ≡ reason_text (number_of reason) }
 {
     match reason {
-        0 => put_text(out, start, b"no error"),
-        commands::NO_COMMAND => put_text(out, start, b"no such command"),
-        commands::NO_FIELD => put_text(out, start, b"no such field"),
-        commands::NO_PART => put_text(out, start, b"neither send nor receive"),
-        commands::MISSING => put_text(out, start, b"a number is missing"),
-        letters::NOT_NUMBER => put_text(out, start, b"not a number"),
-        letters::TOO_LARGE => put_text(out, start, b"number too large"),
-        letters::TOO_SMALL => put_text(out, start, b"number too small"),
-        commands::TOO_MUCH => put_text(out, start, b"too much on the line"),
-        commands::TOO_LONG => put_text(out, start, b"line too long"),
-        NOT_RECORD => put_text(out, start, b"no line of a schedule"),
-        TABLE_FIRST => put_text(out, start, b"table stands first, and only there"),
-        letters::NO_CHOICE => put_text(out, start, b"neither yes nor no"),
-        ROWS_FULL => put_text(out, start, b"no more than 80 rows are kept"),
-        LOG_FULL => put_text(out, start, b"no more than 520 entries are kept"),
-        _ => start,
+        Reason::NoCommand => b"no such command",
+        Reason::NoField => b"no such field",
+        Reason::NoPart => b"neither send nor receive",
+        Reason::Missing => b"a number is missing",
+        Reason::NotNumber => b"not a number",
+        Reason::TooLarge => b"number too large",
+        Reason::TooSmall => b"number too small",
+        Reason::TooMuch => b"too much on the line",
+        Reason::TooLong => b"line too long",
+        Reason::NotRecord => b"no line of a schedule",
+        Reason::TableFirst => b"table stands first, and only there",
+        Reason::NoChoice => b"neither yes nor no",
+        Reason::RowsFull => b"no more than 80 rows are kept",
+        Reason::LogFull => b"no more than 520 entries are kept",
     }
 }
 
 // Whether the word that is wrong is named: an empty one only between commas.
-fn names_word(reason: u8, word: &[u8]) -> bool
-    ensures { result ≡ names_word reason word.now }
+fn names_word(reason: Reason, word: &[u8]) -> bool
+    ensures { result ≡ names_word (number_of reason) word.now }
 {
-    if reason == letters::NOT_NUMBER {
-        return true;
+    match reason {
+        Reason::NotNumber => true,
+        _ => !word.is_empty(),
     }
-    word.len() != 0
 }
 
 // The word that is wrong, behind a colon, where it is named.
-fn put_named(out: &mut [u8], start: usize, reason: u8, word: &[u8]) -> usize
-    ensures { Written start (named_word reason word.now) out.old out.new result }
+fn put_named(out: &mut [u8], start: usize, reason: Reason, word: &[u8]) -> usize
+    ensures { Written start (named_word (number_of reason) word.now) out.old out.new result }
 {
     if names_word(reason, word) {
         let end = put_text(out, start, b": ");
@@ -68,18 +57,19 @@ fn put_named(out: &mut [u8], start: usize, reason: u8, word: &[u8]) -> usize
 }
 
 // The line that says why line n is no command.
-pub fn put_error(out: &mut [u8], start: usize, n: u64, reason: u8, word: &[u8]) -> usize
-    ensures { Written start (error_text n reason word.now) out.old out.new result }
+pub fn put_error(out: &mut [u8], start: usize, n: u64, reason: Reason, word: &[u8]) -> usize
+    ensures { Written start (error_text n (number_of reason) word.now) out.old out.new result }
 {
     let named = put_text(out, start, b"error at line ");
     let numbered = put_number(out, named, n);
     let spaced = put_text(out, numbered, b": ");
-    let told = put_reason(out, spaced, reason);
+    let told = put_text(out, spaced, text_of(reason));
     let ended = put_named(out, told, reason, word);
     put_byte(out, ended, NEWLINE)
 }
 
 // Words from a place of a line on, each behind a space.
+// Kept: a walk from word to word, as `words` of language/specs/Words has no iterator here: one would have laws longer than this loop.
 fn put_behind(out: &mut [u8], start: usize, line: &[u8], from: usize) -> usize
     requires { from ≤ length line.now }
     ensures { Written start (behind_spaces (words (drop from line.now))) out.old out.new result }
@@ -88,14 +78,12 @@ fn put_behind(out: &mut [u8], start: usize, line: &[u8], from: usize) -> usize
     let mut at = from;
     while at < line.len() {
         let word = next_word(line, at);
-        let first = word.start;
-        let stop = word.end;
-        if first == stop {
+        if word.start == word.end {
             return end;
         }
         let spaced = put_byte(out, end, SPACE);
-        end = put_text(out, spaced, &line[first..stop]);
-        at = stop;
+        end = put_text(out, spaced, &line[word.start..word.end]);
+        at = word.end;
     }
     end
 }
@@ -106,13 +94,11 @@ fn put_joined(out: &mut [u8], start: usize, line: &[u8], from: usize) -> usize
     ensures { Written start (joined_words (words (drop from line.now))) out.old out.new result }
 {
     let word = next_word(line, from);
-    let first = word.start;
-    let stop = word.end;
-    if first == stop {
+    if word.start == word.end {
         return start;
     }
-    let end = put_text(out, start, &line[first..stop]);
-    put_behind(out, end, line, stop)
+    let end = put_text(out, start, &line[word.start..word.end]);
+    put_behind(out, end, line, word.end)
 }
 
 // The answer to `say`: the words behind it.
