@@ -1,42 +1,27 @@
-// The commands that lend a store, records or places, note a row of rules, or set a field by force, as no call would.
-use crate::sessions::{Reply, Session, only_text};
+// The commands that lend a store, records or places, note a row of rules, or set a field by force, as no call would. Each answers where the text of its answer ends.
+use crate::sessions::Session;
 use commands::{Asked, Reason};
 use forcing::{byte_at, number_at};
 use model::{Range, Rule};
 use telling::put_word;
 
-// A session and the word `lent`.
-fn lent(session: Session, out: &mut [u8]) -> Reply {
-    let end = put_word(out, b"lent");
-    Reply { session, end }
-}
-
-// A session and the word `set`.
-fn was_set(session: Session, out: &mut [u8]) -> Reply {
-    let end = put_word(out, b"set");
-    Reply { session, end }
-}
-
 // From now on a store of so many words, each the same, is lent.
-pub fn store(session: Session, named: &[u32], store: &mut [u32], out: &mut [u8]) -> Reply {
-    let mut next = session;
-    next.words = number_at(named, 0) as usize;
+pub fn store(session: &mut Session, named: &[u32], store: &mut [u32], out: &mut [u8]) -> usize {
+    session.words = number_at(named, 0) as usize;
     store.fill(number_at(named, 1));
-    lent(next, out)
+    put_word(out, b"lent")
 }
 
 // From now on so many records are lent.
-pub fn records(session: Session, named: &[u32], out: &mut [u8]) -> Reply {
-    let mut next = session;
-    next.records = number_at(named, 0) as usize;
-    lent(next, out)
+pub fn records(session: &mut Session, named: &[u32], out: &mut [u8]) -> usize {
+    session.records = number_at(named, 0) as usize;
+    put_word(out, b"lent")
 }
 
 // From now on so many places are lent to a count.
-pub fn places(session: Session, named: &[u32], out: &mut [u8]) -> Reply {
-    let mut next = session;
-    next.places = number_at(named, 0) as usize;
-    lent(next, out)
+pub fn places(session: &mut Session, named: &[u32], out: &mut [u8]) -> usize {
+    session.places = number_at(named, 0) as usize;
+    put_word(out, b"lent")
 }
 
 // The most rows that are noted. Those from the 65th on are counted, and not kept.
@@ -62,37 +47,32 @@ fn row_of(named: &[u32]) -> Rule {
 }
 
 // A row for the next loading.
-pub fn rule(session: Session, number: u64, named: &[u32], out: &mut [u8]) -> Reply {
+pub fn rule(session: &mut Session, number: u64, named: &[u32], out: &mut [u8]) -> usize {
     let mut noted = session.noted;
     if MOST_NOTED <= noted.len {
-        let end = replies::put_error(out, 0, number, Reason::RowsFull, b"");
-        return only_text(session, end);
+        return replies::put_error(out, 0, number, Reason::RowsFull, b"");
     }
     if noted.len < MOST_KEPT {
         noted.rows[noted.len as usize] = row_of(named);
     }
     noted.len += 1;
-    let mut next = session;
-    next.noted = noted;
-    let end = put_word(out, b"noted");
-    Reply { session: next, end }
+    session.noted = noted;
+    put_word(out, b"noted")
 }
 
 // The table's N.
-pub fn size(session: Session, named: &[u32], out: &mut [u8]) -> Reply {
-    let mut next = session;
-    next.table.n = byte_at(named, 0);
-    was_set(next, out)
+pub fn size(session: &mut Session, named: &[u32], out: &mut [u8]) -> usize {
+    session.table.n = byte_at(named, 0);
+    put_word(out, b"set")
 }
 
 // A field of a thread of the array.
-pub fn set(session: Session, command: Asked, named: &[u32], out: &mut [u8]) -> Reply {
+pub fn set(session: &mut Session, command: Asked, named: &[u32], out: &mut [u8]) -> usize {
     let x = number_at(named, 0) as usize;
     let mut table = session.table;
     if x < 32 {
         table.threads[x] = forcing::changed(table.threads[x], command, named);
     }
-    let mut next = session;
-    next.table = table;
-    was_set(next, out)
+    session.table = table;
+    put_word(out, b"set")
 }

@@ -1,5 +1,5 @@
 // The commands on two logs, of sends and of receives: an entry more in one, and a comparison of both. The entries stand in numbers that the caller lends, since a session that held them would be copied with them at every line.
-use crate::sessions::{Reply, Session};
+use crate::sessions::Session;
 use commands::{RECEIVED_ROW, Reason, SENT_ROW};
 use forcing::{byte_at, number_at};
 use logs::{Log, LogEntry};
@@ -50,51 +50,22 @@ fn put_entry(log: &mut [u32], place: u16, sender: u32, target: u32, named: &[u32
     }
 }
 
-// An entry more in a log of so many: how many there are then, as many as before where no more are noted.
-fn grown(log: &mut [u32], len: u16, sender: u32, target: u32, named: &[u32]) -> u16 {
-    if MOST_NOTED <= len {
-        return len;
-    }
-    put_entry(log, len, sender, target, named);
-    len + 1
-}
-
-// That an entry is noted, or that a log of so many takes no more.
-fn put_noted(out: &mut [u8], number: u64, len: u16) -> usize {
-    if MOST_NOTED <= len {
+// An entry more in a log of so many; or that it takes no more.
+fn note(
+    log: &mut [u32],
+    len: &mut u16,
+    number: u64,
+    sender: u32,
+    target: u32,
+    named: &[u32],
+    out: &mut [u8],
+) -> usize {
+    if MOST_NOTED <= *len {
         return replies::put_error(out, 0, number, Reason::LogFull, b"");
     }
+    put_entry(log, *len, sender, target, named);
+    *len += 1;
     put_word(out, b"noted")
-}
-
-// An entry more in the log of sends.
-fn sent(session: Session, number: u64, named: &[u32], sends: &mut [u32], out: &mut [u8]) -> Reply {
-    let len = session.sends;
-    let end = put_noted(out, number, len);
-    let mut next = session;
-    next.sends = grown(sends, len, number_at(named, 0), number_at(named, 1), named);
-    Reply { session: next, end }
-}
-
-// An entry more in the log of receives, whose line names the target first.
-fn received(
-    session: Session,
-    number: u64,
-    named: &[u32],
-    receives: &mut [u32],
-    out: &mut [u8],
-) -> Reply {
-    let len = session.receives;
-    let end = put_noted(out, number, len);
-    let mut next = session;
-    next.receives = grown(
-        receives,
-        len,
-        number_at(named, 1),
-        number_at(named, 0),
-        named,
-    );
-    Reply { session: next, end }
 }
 
 // The words of the entry at a place of a log.
@@ -128,31 +99,44 @@ fn log_of(log: &[u32], len: u16) -> Log {
 }
 
 // Compares both logs, and forgets them, refused or not.
-fn compare(session: Session, entries: &[u32], out: &mut [u8]) -> Reply {
+fn compare(session: &mut Session, entries: &[u32], out: &mut [u8]) -> usize {
     let half = ONE_LOG.min(entries.len());
     let sends = log_of(&entries[..half], session.sends);
     let receives = log_of(&entries[half..], session.receives);
-    let compared = comparison::compare(sends, receives);
-    let end = put_compared(out, compared);
-    let mut next = session;
-    next.sends = 0;
-    next.receives = 0;
-    Reply { session: next, end }
+    session.sends = 0;
+    session.receives = 0;
+    put_compared(out, comparison::compare(sends, receives))
 }
 
-// The commands on the logs, whose entries stand in these numbers.
+// The commands on the logs, whose entries stand in these numbers. A line of a receive names the target first.
 pub fn recorded(
-    session: Session,
+    session: &mut Session,
     row: u8,
     number: u64,
     named: &[u32],
     entries: &mut [u32],
     out: &mut [u8],
-) -> Reply {
+) -> usize {
     let half = ONE_LOG.min(entries.len());
+    let first = number_at(named, 0);
+    let second = number_at(named, 1);
     match row {
-        SENT_ROW => sent(session, number, named, &mut entries[..half], out),
-        RECEIVED_ROW => received(session, number, named, &mut entries[half..], out),
+        SENT_ROW => {
+            let log = &mut entries[..half];
+            note(log, &mut session.sends, number, first, second, named, out)
+        }
+        RECEIVED_ROW => {
+            let log = &mut entries[half..];
+            note(
+                log,
+                &mut session.receives,
+                number,
+                second,
+                first,
+                named,
+                out,
+            )
+        }
         _ => compare(session, entries, out),
     }
 }
