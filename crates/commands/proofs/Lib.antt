@@ -1,3 +1,4 @@
+pub mod Members
 pub mod Partners
 pub mod Reading
 pub mod Returned

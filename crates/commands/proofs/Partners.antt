@@ -2,14 +2,12 @@
 use mathlib.Core.Path.{◌≡◌, refl, sym, ap, ◌∙◌}
 use mathlib.Core.Bool.{true, false, true≢false}
 use mathlib.Core.List.{List, [], ◌∷◌}
-use Prim.Native.Nat.{ℕ, zero, suc, ◌+◌, ◌*◌, ◌%◌, ◌^◌, ◌≤◌, ◌<◌}
+use Prim.Native.Nat.{ℕ, zero, suc, ◌+◌, ◌%◌, ◌≤◌, ◌<◌}
 use Prim.Native.Char.{code}
-use native.Mathlib.Nat.{one-mul}
 use native.Mathlib.Numerals.{add-one}
 use native.Mathlib.Omega.{arith}
 use lib.Dec.{eqb, ltb}
 use lib.ListN.{length, take, drop, get_or}
-use lib.Pow.{shl_exact}
 use lib.Seq.{length-take-le}
 use borrow.Author.Tests.{ltb-true, ltb-false, eqb-true, eqb-false}
 use Rattle.model.specs.declared.SendPart.{SendPart}
@@ -17,7 +15,6 @@ use Rattle.model.specs.declared.Receive.{Receive}
 use Rattle.model.specs.declared.Receive.TheVariants.{OneOf}
 use Rattle.model.specs.Lists.{up_to}
 use Rattle.model.specs.Bondtrace.{ascii}
-use Rattle.model.specs.Operations.{member}
 use Rattle.model.specs.Refusals.{unless}
 use Rattle.model.proofs.Laws.{by}
 use Rattle.laws.proofs.Joined.{drop_of_take}
@@ -27,28 +24,14 @@ use Rattle.language.specs.Commands.{is_negative, digits_of, wrong_number, kept, 
 use Rattle.scanning.specs.Scanned.{between, Run, of_piece, Found}
 use Rattle.scanning.proofs.Runs.{found_none, found_word}
 use Rattle.scanning.proofs.Pieces.{piece-ended, piece-last}
-use Rattle.commands.specs.declared.Cursor.{Cursor}
-use Rattle.letters.specs.declared.Amount.{Amount}
-use Rattle.letters.specs.Measured.{Measured}
-use Rattle.commands.specs.Standing.{progress, Advanced, Spells, misspelling, starting_at}
-use Rattle.commands.proofs.Reading.{unless-none, unless-some, progress-stopped, progress-reached, between_none, between-front}
-use Rattle.commands.proofs.Spelling.{spells_wrong, not-above, number_more, time-read}
-
--- ---- a set
-module _ (set s : ℕ) where
-  -- a member that it has
-  pub member-kept : member set s ≡ true → set ≡ with_member set s
-  unfolding with_member
-  member-kept e = rw e
-
-  -- one that it gets
-  pub member_added : member set s ≡ false → set + 2 ^ s ≡ with_member set s
-  unfolding with_member
-  member_added e = rw e
-
--- the bit of one
-pub member-bit : (s : ℕ) → s < 32 → 1 * 2 ^ s % 4294967296 ≡ 2 ^ s
-member-bit s l = shl_exact 1 s 32 (omega arith) (omega arith) ∙ one-mul (2 ^ s)
+use Rattle.commands.specs.declared.cursors.Cursor.{Cursor}
+use Rattle.commands.specs.declared.Misread.{Misread}
+use Rattle.letters.specs.declared.Reason.{Reason}
+use Rattle.std.specs.Prelude.{Ok, Err}
+use Rattle.letters.specs.Measured.{Measured, number_of}
+use Rattle.commands.specs.Standing.{Placed, Refuses, Reaches, Valued}
+use Rattle.commands.proofs.Reading.{unless-none, unless-told, refuses_through, between_none, between-front}
+use Rattle.commands.proofs.Spelling.{closed-refused, not-above, number_more, time-read}
 
 -- ---- behind a set
 -- the wait for one of a set, by its time code
@@ -68,9 +51,16 @@ set_first send set (word ∷ left) = go (wrong_number (code "b") word) left wher
   go (suc g) later = refl
 
 -- behind a set a time code is read
-pub one_of_read : (line before after : List ℕ) (at most : ℕ) (last : Cursor) (send : SendPart) (set : ℕ) → Advanced line after (read_numbers (ascii "b") (progress line before (starting_at at))) most last
-    → closed send (λ _. wait_for set (get_or after 0 0 % 256)) (progress line [] last) ≡ read_one_of send (reached (set ∷ []) (words (drop at line)))
-one_of_read line before after at most last send set a = time-read line before after at most last send (wait_for set) a ∙ set_first send set (words (drop at line))
+pub one_of_read : (line : List ℕ) (send : SendPart) (left : List (List ℕ)) (after : List ℕ) (most : ℕ) (last : Cursor) (set : ℕ) → Reaches line after (read_numbers (ascii "b") (reached [] left)) most last
+    → closed send (λ _. wait_for set (get_or after 0 0 % 256)) (reached [] (words (drop last.at line))) ≡ read_one_of send (reached (set ∷ []) left)
+one_of_read line send left after most last set a = time-read line send left after most last (wait_for set) a ∙ set_first send set left
+
+-- or it was not read
+pub one_of_refused : (line : List ℕ) (send : SendPart) (left : List (List ℕ)) (set : ℕ) {m : Misread} → Refuses line stopped (read_numbers (ascii "b") (reached [] left)) m
+    → Refuses line misspelled (read_one_of send (reached (set ∷ []) left)) m
+one_of_refused line send left set r =
+    let c = closed-refused line send (λ numbers. wait_for set (get_or numbers 0 0)) r in
+    record { word = c.word; means = c.means ∙ set_first send set left }
 
 -- reading stopped before the time code
 one_of_stopped : (send : SendPart) (reason : ℕ) (word : List ℕ) → misspelled reason word ≡ read_one_of send (stopped reason word)
@@ -84,55 +74,52 @@ only-first l zero number e = cc
 only-first [] (suc count) number e = cc
 only-first (a ∷ l) (suc count) number e = cc
 
-module _ (line before after : List ℕ) (at most : ℕ) (last : Cursor) (send : SendPart) (a : Advanced line after (read_numbers (ascii "w") (progress line before (starting_at at))) most last) where
-  -- what the cursor stands for
-  set-number : read_numbers (ascii "w") (reached [] (words (drop at line))) ≡ progress line after last
-  unfolding progress unless
-  set-number = sym a.means
-
+module _ (line : List ℕ) (send : SendPart) (left : List (List ℕ)) where
   -- the number was not read
-  pub set-stopped : (last.reason ≡ 0 → ⊥) → Spells line (read_one_of send (read_numbers (ascii "w") (reached [] (words (drop at line))))) (misspelling last.reason last.start last.end)
-  set-stopped d = rw (set-number ∙ progress-stopped line after last d, ← one_of_stopped send last.reason (between last.start last.end line)) (spells_wrong line _ _ _ a.stands.word d)
+  pub set-refused : {m : Misread} → Refuses line stopped (read_numbers (ascii "w") (reached [] left)) m → Refuses line misspelled (read_one_of send (read_numbers (ascii "w") (reached [] left))) m
+  set-refused r = refuses_through misspelled (read_one_of send) (one_of_stopped send) r
 
   -- it was
-  pub set-read : last.reason ≡ 0 → read_one_of send (reached (get_or after 0 0 ∷ []) (words (drop last.at line))) ≡ read_one_of send (read_numbers (ascii "w") (reached [] (words (drop at line))))
+  pub set-read : (after : List ℕ) (most : ℕ) (last : Cursor) → Reaches line after (read_numbers (ascii "w") (reached [] left)) most last
+      → read_one_of send (reached (get_or after 0 0 ∷ []) (words (drop last.at line))) ≡ read_one_of send (read_numbers (ascii "w") (reached [] left))
   unfolding read_numbers ascii up_to takes_sign
-  set-read z =
-      let read = set-number ∙ progress-reached line after last z in
-      let m = number_more (code "w") refl [] _ _ _ read in
-      rw read (ap (λ (numbers : List ℕ). read_one_of send (reached numbers (words (drop last.at line)))) (sym (only-first after last.count m.number m.is)))
+  set-read after most last a =
+      let m = number_more (code "w") refl [] _ left _ (sym a.means) in
+      rw (← a.means) (ap (λ (numbers : List ℕ). read_one_of send (reached numbers (words (drop last.at line)))) (sym (only-first after last.count m.number m.is)))
 
 -- ---- threads between commas
 -- a thread is below 32
-pub thread-small : (word : List ℕ) (amount : Amount) → Measured (code "t") (digits_of (code "t") word) amount → amount.reason ≡ 0 → amount.value < 32
+pub thread-small : (word : List ℕ) (number : ℕ) → Measured (code "t") (digits_of (code "t") word) (Ok number) → number < 32
 unfolding largest
-thread-small word amount m z = let fits : value (digits_of (code "t") word) ≤ 31 = not-above (code "t") _ (sym m.reason ∙ z) in omega (arith, m.which z)
+thread-small word number v = let fits : value (digits_of (code "t") word) ≤ 31 = not-above (code "t") _ v.0 in omega (arith, v.1)
 
-module _ (word : List ℕ) (left : List (List ℕ)) (set start stop : ℕ) (r : Run of_piece word start stop) (amount : Amount) (m : Measured (code "t") (digits_of (code "t") (between start stop word)) amount) where
-  -- a piece that is one is put into the set
-  piece-read : (more : List (List ℕ)) → amount.reason ≡ 0 → read_members set (between start stop word ∷ more) left ≡ read_members (with_member set amount.value) more left
-  unfolding read_members wrong_number digits_of is_negative takes_sign takes_choice
-  piece-read more z = unless-none _ _ _ (sym m.reason ∙ z) ∙ ap (λ (s : ℕ). read_members (with_member set s) more left) (sym (m.which z))
+module _ (word : List ℕ) (left : List (List ℕ)) (set start stop : ℕ) (r : Run of_piece word start stop) where
+  module _ (number : ℕ) (v : Measured (code "t") (digits_of (code "t") (between start stop word)) (Ok number)) where
+    -- a piece that is one is put into the set
+    piece-read : (more : List (List ℕ)) → read_members set (between start stop word ∷ more) left ≡ read_members (with_member set number) more left
+    unfolding read_members wrong_number digits_of is_negative takes_sign takes_choice
+    piece-read more = unless-none _ _ _ v.0 ∙ ap (λ (s : ℕ). read_members (with_member set s) more left) (sym v.1)
 
-  -- another stops the reading
-  piece-wrong : (more : List (List ℕ)) → (amount.reason ≡ 0 → ⊥) → read_members set (between start stop word ∷ more) left ≡ stopped amount.reason (between start stop word)
-  unfolding read_members wrong_number
-  piece-wrong more d = rw (sym m.reason) (unless-some _ _ amount.reason d)
+    -- the last piece
+    pieces-last : stop ≡ length word → read_members set (pieces (drop start word)) left ≡ reached (with_member set number ∷ []) left
+    unfolding read_members
+    pieces-last e = rw (piece-last word start stop r e) (piece-read [])
 
-  -- whichever piece it is
-  pieces-wrong : (amount.reason ≡ 0 → ⊥) → read_members set (pieces (drop start word)) left ≡ stopped amount.reason (between start stop word)
-  pieces-wrong d = by (ltb stop (length word))
-      (λ e. rw (piece-ended word start stop r (ltb-true _ _ e)) (piece-wrong _ d))
-      (λ e. let end : length word ≤ stop = ltb-false _ _ e in rw (piece-last word start stop r (omega (arith, r.passing.within))) (piece-wrong _ d))
+    -- one before it
+    pieces_more : stop < length word → read_members set (pieces (drop start word)) left ≡ read_members (with_member set number) (pieces (drop (suc stop) word)) left
+    pieces_more lt = rw (piece-ended word start stop r lt) (piece-read _)
 
-  -- the last piece
-  pieces-last : amount.reason ≡ 0 → stop ≡ length word → read_members set (pieces (drop start word)) left ≡ reached (with_member set amount.value ∷ []) left
-  unfolding read_members
-  pieces-last z e = rw (piece-last word start stop r e) (piece-read [] z)
+  module _ (reason : Reason) (v : Measured (code "t") (digits_of (code "t") (between start stop word)) (Err reason)) where
+    -- another stops the reading
+    piece-wrong : (more : List (List ℕ)) → read_members set (between start stop word ∷ more) left ≡ stopped (number_of reason) (between start stop word)
+    unfolding read_members wrong_number
+    piece-wrong more = rw v (unless-told _ _ reason)
 
-  -- one before it
-  pieces_more : amount.reason ≡ 0 → stop < length word → read_members set (pieces (drop start word)) left ≡ read_members (with_member set amount.value) (pieces (drop (suc stop) word)) left
-  pieces_more z lt = rw (piece-ended word start stop r lt) (piece-read _ z)
+    -- whichever piece it is
+    pieces-wrong : read_members set (pieces (drop start word)) left ≡ stopped (number_of reason) (between start stop word)
+    pieces-wrong = by (ltb stop (length word))
+        (λ e. rw (piece-ended word start stop r (ltb-true _ _ e)) (piece-wrong _))
+        (λ e. let end : length word ≤ stop = ltb-false _ _ e in rw (piece-last word start stop r (omega (arith, r.passing.within))) (piece-wrong _))
 
 -- ---- partners of a line, between two places
 module _ (line : List ℕ) (first end : ℕ) where
@@ -153,34 +140,36 @@ module _ (line : List ℕ) (first end : ℕ) where
   pub members-start : first ≤ end → Members 0 first
   members-start le = record { within = le; means = rw (drop_of_take first end line) }
 
-  module _ (there : end ≤ length line) {set start : ℕ} (so_far : Members set start) (stop : ℕ) (r : Run of_piece front start stop) (amount : Amount) (m : Measured (code "t") (digits_of (code "t") (between start stop front)) amount) where
+  module _ (there : end ≤ length line) {set start : ℕ} (so_far : Members set start) (stop : ℕ) (r : Run of_piece front start stop) where
     -- the line goes as far as they do
     front_length : length front ≡ end
     front_length = length-take-le end line there
 
     -- the next is no thread
-    pub members-wrong : (send : SendPart) → (amount.reason ≡ 0 → ⊥) → Spells line (read_one_of send partners) (misspelling amount.reason start stop)
-    members-wrong send d =
+    pub members-wrong : (send : SendPart) (m : Misread) → Valued (code "t") front (record { start = start; end = stop }) (Err m) → Refuses line misspelled (read_one_of send partners) m
+    members-wrong send m v =
         let inside : stop ≤ end = omega (arith, r.passing.within, front_length) in
-        let told = sym so_far.means ∙ pieces-wrong front _ set start stop r amount m d ∙ ap (stopped amount.reason) (between-front line end start stop inside) in
-        rw (told, ← one_of_stopped send amount.reason (between start stop line))
-        (spells_wrong line amount.reason start stop (record { ordered = r.passing.after; within = omega arith }) d)
+        let there : Placed line start stop = record { ordered = r.passing.after; within = omega arith } in
+        let told = sym so_far.means ∙ pieces-wrong front _ set start stop r m.reason v.1 ∙ ap (stopped (number_of m.reason)) (between-front line end start stop inside) in record {
+          word = rw v.0 there;
+          means = rw v.0 (one_of_stopped send (number_of m.reason) (between start stop line) ∙ ap (read_one_of send) (sym told));
+        }
 
-    module _ (z : amount.reason ≡ 0) (s next : ℕ) (low : s ≡ amount.value % 256) (n : next ≡ with_member set s) where
+    module _ (number : ℕ) (v : Valued (code "t") front (record { start = start; end = stop }) (Ok number)) (s next : ℕ) (low : s ≡ number % 256) (n : next ≡ with_member set s) where
       -- the next is one
-      with-next : next ≡ with_member set amount.value
-      with-next = let same : s ≡ amount.value = omega (arith, low, thread-small (between start stop front) amount m z) in n ∙ ap (with_member set) same
+      with-next : next ≡ with_member set number
+      with-next = let same : s ≡ number = omega (arith, low, thread-small (between start stop front) number v) in n ∙ ap (with_member set) same
 
       -- it is the last
       pub members-last : stop ≡ end → reached (next ∷ []) (words (drop end line)) ≡ partners
-      members-last e = rw with-next (sym (pieces-last front _ set start stop r amount m z (e ∙ sym front_length)) ∙ so_far.means)
+      members-last e = rw with-next (sym (pieces-last front _ set start stop r number v (e ∙ sym front_length)) ∙ so_far.means)
 
       -- more follow
       pub members-more : (stop ≡ end → ⊥) → Members next (stop + 1)
       members-more d =
           let inside : stop < end = omega (arith, r.passing.within, front_length) in record {
             within = omega arith;
-            means = rw (with-next, add-one) (sym (pieces_more front _ set start stop r amount m z (rw front_length inside)) ∙ so_far.means);
+            means = rw (with-next, add-one) (sym (pieces_more front _ set start stop r number v (rw front_length inside)) ∙ so_far.means);
           }
 
 -- ---- behind the word `receive`
@@ -201,7 +190,7 @@ module _ (send : SendPart) (left : List (List ℕ)) where
     unfolding read_wait
     wait-partners e = rw (other, e)
 
-module _ (line : List ℕ) (send : SendPart) (at start end : ℕ) (f : Found line at start end) where
+module _ (line : List ℕ) (at start end : ℕ) (f : Found line at start end) (send : SendPart) where
   -- a word with a comma is there
   comma-word : has_comma (between start end line) ≡ true → start ≡ end → ⊥
   unfolding has_comma

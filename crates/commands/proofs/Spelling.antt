@@ -1,5 +1,5 @@
 -- The operation that words spell: what parts stand for, and what their numbers are.
-use mathlib.Core.Path.{◌≡◌, refl, sym, ap, ◌∙◌}
+use mathlib.Core.Path.{◌≡◌, refl, sym, ap, subst, ◌∙◌}
 use mathlib.Core.Bool.{true, false}
 use mathlib.Core.List.{List, [], ◌∷◌, ◌++◌}
 use Prim.Native.Nat.{ℕ, ◌%◌, ◌≤◌, ◌<◌}
@@ -9,60 +9,46 @@ use lib.Dec.{eqb, ltb}
 use lib.ListN.{length, take, drop, get_or, replicate, length-take}
 use lib.Seq.{get_or-take}
 use borrow.Author.Tests.{ltb-false, eqb-true, eqb-false}
+use Rattle.model.specs.declared.Operation.{Operation}
 use Rattle.model.specs.declared.SendPart.{SendPart}
 use Rattle.model.specs.declared.Receive.{Receive}
 use Rattle.model.specs.declared.Receive.TheVariants.{Absent, Open, Closed}
 use Rattle.model.specs.Lists.{up_to, same_numbers}
 use Rattle.model.specs.Threads.{no_operation}
 use Rattle.model.specs.Bondtrace.{ascii}
-use Rattle.model.specs.Refusals.{unless, first_refusal}
+use Rattle.model.specs.Refusals.{first_refusal}
 use Rattle.model.proofs.Laws.{by}
 use Rattle.laws.proofs.Lists.{zero_or_not}
 use Rattle.language.specs.Words.{words, is_number, value}
 use Rattle.language.specs.Grammar.{largest, takes_sign, takes_choice}
-use Rattle.language.specs.Commands.{no_part, not_number, too_much, is_negative, digits_of, wrong_digits, wrong_number, kept, Progress, stopped, reached, read_number, read_numbers, Spelled, misspelled, spelled, starts_with, closed, read_open, read_closed, read_wait, read_receive, with_word, read_words, empty_send, read_send, read_parts}
+use Rattle.language.specs.Commands.{not_number, is_negative, digits_of, wrong_digits, wrong_number, kept, Progress, stopped, reached, read_number, read_numbers, Spelled, misspelled, spelled, starts_with, closed, read_open, read_closed, read_wait, read_receive, with_word, read_words, empty_send, read_send, read_parts}
 use Rattle.scanning.specs.Scanned.{between, Found}
 use Rattle.scanning.proofs.Runs.{found_none, found_word}
-use Rattle.commands.specs.declared.Cursor.{Cursor}
-use Rattle.commands.specs.declared.Parts.{Parts}
-use Rattle.letters.specs.declared.Amount.{Amount}
-use Rattle.commands.specs.Standing.{progress, spelling, Placed, Stands, Advanced, Spells, misspelling, spelling_out, starting_at}
-use Rattle.letters.specs.Measured.{Measured}
+use Rattle.commands.specs.declared.cursors.Cursor.{Cursor}
+use Rattle.commands.specs.declared.Misread.{Misread}
+use Rattle.scanning.specs.declared.Span.{Span}
+use Rattle.letters.specs.declared.Reason.TheVariants.{NoPart, TooMuch}
+use Rattle.std.specs.Prelude.{Result, Ok, Err}
+use Rattle.commands.specs.Standing.{Refuses, Reaches, Spells, Valued}
 use Rattle.letters.proofs.Measures.{reason-there}
-use Rattle.commands.proofs.Reading.{unless-none, unless-some, progress-stopped, progress-reached, between_none}
+use Rattle.commands.proofs.Reading.{unless-none, unless-some, unless-told, refuses_through, between_none, placed_word}
 
--- ---- parts
--- parts stand for what is equal to what they stand for
-pub spells_as : {line : List ℕ} {s t : Spelled} {parts : Parts} → s ≡ t → Spells line s parts → Spells line t parts
-spells_as e s = record { word = s.word; means = s.means ∙ e }
-
--- words that spell no operation
-pub spells_wrong : (line : List ℕ) (reason start end : ℕ) → Placed line start end → (reason ≡ 0 → ⊥) → Spells line (misspelled reason (between start end line)) (misspelling reason start end)
-unfolding spelling
-spells_wrong line reason start end place d = record { word = place; means = unless-some _ _ reason d }
-
--- words that spell one
-pub spells_out : (line : List ℕ) (send : SendPart) (receive : Receive) → Spells line (spelled (record { send = send; receive = receive })) (spelling_out send receive)
-unfolding spelling unless
-spells_out line send receive = record { word = record { ordered = omega arith; within = omega arith }; means = refl }
+-- ---- an operation
+-- what words spell is what that is equal to
+pub spells_as : (line : List ℕ) {s t : Spelled} (r : Result Operation Misread) → s ≡ t → Spells line s r → Spells line t r
+spells_as line r e s = let P : Spelled → Type 0 = λ x. Spells line x r in subst P e s
 
 -- ---- the end of an operation
-module _ (line : List ℕ) (cursor : Cursor) (send : SendPart) (receive : Receive) (stands : Stands line cursor) where
-  -- its numbers were not read
-  pub close-stopped : (cursor.reason ≡ 0 → ⊥) → Spells line (closed send (λ _. receive) (progress line [] cursor)) (misspelling cursor.reason cursor.start cursor.end)
+module _ (line : List ℕ) (at : ℕ) (word : Span) (f : Found line at word.start word.end) (send : SendPart) (receive : Receive) where
+  -- nothing is left
+  pub close-end : word.start ≡ word.end → spelled (record { send = send; receive = receive }) ≡ closed send (λ _. receive) (reached [] (words (drop at line)))
   unfolding closed
-  close-stopped d = rw (progress-stopped line [] cursor d) (spells_wrong line _ _ _ stands.word d)
+  close-end s = rw (found_none line _ _ _ f s)
 
-  module _ (start end : ℕ) (f : Found line cursor.at start end) (e : cursor.reason ≡ 0) where
-    -- nothing is left
-    pub close-end : start ≡ end → Spells line (closed send (λ _. receive) (progress line [] cursor)) (spelling_out send receive)
-    unfolding closed
-    close-end s = rw (progress-reached line [] cursor e, found_none line _ _ _ f s) (spells_out line send receive)
-
-    -- something is
-    pub close_more : (start ≡ end → ⊥) → Spells line (closed send (λ _. receive) (progress line [] cursor)) (misspelling too_much start end)
-    unfolding closed
-    close_more d = rw (progress-reached line [] cursor e, found_word line _ _ _ f d) (spells_wrong line too_much start end (record { ordered = f.ordered; within = f.within }) (omega arith))
+  -- something is
+  pub close_more : (word.start ≡ word.end → ⊥) → Refuses line misspelled (closed send (λ _. receive) (reached [] (words (drop at line)))) (record { reason = TooMuch; word = word })
+  unfolding closed
+  close_more d = record { word = placed_word f; means = rw (found_word line _ _ _ f d) }
 
 -- only the receive part depends on the numbers
 closed_same : (send : SendPart) (receive : Receive) (f : List ℕ → Receive) (ns ms : List ℕ) (left : List (List ℕ)) → receive ≡ f ms
@@ -70,17 +56,6 @@ closed_same : (send : SendPart) (receive : Receive) (f : List ℕ → Receive) (
 unfolding closed
 closed_same send receive f ns ms [] e = rw e
 closed_same send receive f ns ms (word ∷ left) e = refl
-
--- an operation whose numbers were read, as its definition closes it
-pub closed_as : (line after : List ℕ) (last : Cursor) (send : SendPart) (receive : Receive) (f : List ℕ → Receive) (p : Progress) → progress line after last ≡ p
-    → ((left : List (List ℕ)) → p ≡ reached (take last.count after) left → receive ≡ f (take last.count after))
-    → closed send (λ _. receive) (progress line [] last) ≡ closed send f p
-unfolding closed
-closed_as line after last send receive f p e same = zero_or_not last.reason
-    (λ z. let there = progress-reached line after last z in
-    ap (closed send (λ _. receive)) (progress-reached line [] last z) ∙ closed_same send receive f (take last.count []) (take last.count after) (words (drop last.at line)) (same _ (sym e ∙ there)) ∙ ap (closed send f) (sym there ∙ e))
-    (λ g z. let d : last.reason ≡ 0 → ⊥ = λ n. omega arith in
-    ap (closed send (λ _. receive)) (progress-stopped line [] last d) ∙ ap (closed send f) (sym (progress-stopped line after last d) ∙ e))
 
 -- ---- numbers that were read
 -- a number that is not refused is at most the largest
@@ -181,95 +156,104 @@ module _ (line : List ℕ) (at start end : ℕ) (f : Found line at start end) (n
   starts_no e = by (eqb start end) (λ s. rw (found_none line at start end f (eqb-true _ _ s))) (λ s. rw (found_word line at start end f (eqb-false _ _ s)) e)
 
 -- ---- a receive part
--- the cursor at a place stands within the line
-pub stands-start : (line : List ℕ) (at : ℕ) → at ≤ length line → Stands line (starting_at at)
-stands-start line at le = record { word = record { ordered = omega arith; within = le }; behind = le }
+-- numbers that were not read spell no operation
+pub closed-refused : (line : List ℕ) (send : SendPart) (f : List ℕ → Receive) {p : Progress} {m : Misread} → Refuses line stopped p m → Refuses line misspelled (closed send f p) m
+unfolding closed
+closed-refused line send f r = refuses_through misspelled (closed send f) (λ reason word. refl) r
 
-module _ (line before after : List ℕ) (at most : ℕ) (last : Cursor) (send : SendPart) where
-  -- only a time code is read
-  pub time-read : (wait : ℕ → Receive) → Advanced line after (read_numbers (ascii "b") (progress line before (starting_at at))) most last
-      → closed send (λ _. wait (get_or after 0 0 % 256)) (progress line [] last) ≡ closed send (λ numbers. wait (get_or numbers 0 0)) (read_numbers (ascii "b") (reached [] (words (drop at line))))
-  unfolding progress unless
-  time-read wait a = closed_as line after last send _ _ _ a.means λ left e.
-      let b = one_byte _ _ left e in
-      ap wait (low_same after (b.byte ∷ []) last.count 0 b.is (omega arith) b.small)
-
-  -- behind `receive any`
-  pub open-read : Advanced line after (read_numbers (ascii "b") (progress line before (starting_at at))) most last
-      → closed send (λ _. Open (record { time = get_or after 0 0 % 256; partner = 0 })) (progress line [] last) ≡ read_open send (words (drop at line))
+module _ (line : List ℕ) (send : SendPart) (left : List (List ℕ)) where
+  -- a time code behind `receive any` was not read
+  pub open-refused : {m : Misread} → Refuses line stopped (read_numbers (ascii "b") (reached [] left)) m → Refuses line misspelled (read_open send left) m
   unfolding read_open
-  open-read a = time-read (λ time. Open (record { time = time; partner = 0 })) a
+  open-refused r = closed-refused line send _ r
 
-  -- behind `receive`
-  pub closed-read : Advanced line after (read_numbers (ascii "bb") (progress line before (starting_at at))) most last
-      → closed send (λ _. Closed (record { time = get_or after 1 0 % 256; partner = get_or after 0 0 % 256 })) (progress line [] last) ≡ read_closed send (words (drop at line))
-  unfolding read_closed progress unless
-  closed-read a = closed_as line after last send _ _ _ a.means λ left e.
-      let b = two_bytes _ _ left e in
-      rw (low_first after last.count b, low_second after last.count b)
+  -- or a partner and a time code behind `receive`
+  pub closed-numbers-refused : {m : Misread} → Refuses line stopped (read_numbers (ascii "bb") (reached [] left)) m → Refuses line misspelled (read_closed send left) m
+  unfolding read_closed
+  closed-numbers-refused r = closed-refused line send _ r
 
-module _ (line : List ℕ) (send : SendPart) (at start end : ℕ) (f : Found line at start end) where
+  module _ (after : List ℕ) (most : ℕ) (last : Cursor) where
+    -- only a time code is read
+    pub time-read : (wait : ℕ → Receive) → Reaches line after (read_numbers (ascii "b") (reached [] left)) most last
+        → closed send (λ _. wait (get_or after 0 0 % 256)) (reached [] (words (drop last.at line))) ≡ closed send (λ numbers. wait (get_or numbers 0 0)) (read_numbers (ascii "b") (reached [] left))
+    time-read wait a =
+        let b = one_byte (take last.count after) left (words (drop last.at line)) (sym a.means) in
+        closed_same send _ (λ numbers. wait (get_or numbers 0 0)) [] (take last.count after) (words (drop last.at line)) (ap wait (low_same after (b.byte ∷ []) last.count 0 b.is (omega arith) b.small))
+        ∙ ap (closed send (λ numbers. wait (get_or numbers 0 0))) a.means
+
+    -- behind `receive any`
+    pub open-read : Reaches line after (read_numbers (ascii "b") (reached [] left)) most last
+        → closed send (λ _. Open (record { time = get_or after 0 0 % 256; partner = 0 })) (reached [] (words (drop last.at line))) ≡ read_open send left
+    unfolding read_open
+    open-read a = time-read (λ time. Open (record { time = time; partner = 0 })) a
+
+    -- behind `receive`
+    pub closed-read : Reaches line after (read_numbers (ascii "bb") (reached [] left)) most last
+        → closed send (λ _. Closed (record { time = get_or after 1 0 % 256; partner = get_or after 0 0 % 256 })) (reached [] (words (drop last.at line))) ≡ read_closed send left
+    unfolding read_closed
+    closed-read a =
+        let b = two_bytes (take last.count after) left (words (drop last.at line)) (sym a.means) in
+        closed_same send _ (λ numbers. Closed (record { time = get_or numbers 1 0; partner = get_or numbers 0 0 })) [] (take last.count after) (words (drop last.at line)) (rw (low_first after last.count b, low_second after last.count b))
+        ∙ ap (closed send (λ numbers. Closed (record { time = get_or numbers 1 0; partner = get_or numbers 0 0 }))) a.means
+
+module _ (line : List ℕ) (at : ℕ) (word : Span) (f : Found line at word.start word.end) (send : SendPart) where
   -- no word is left
-  pub receive-none : start ≡ end → Spells line (read_receive send (words (drop at line))) (spelling_out send Absent)
+  pub receive-none : word.start ≡ word.end → spelled (record { send = send; receive = Absent }) ≡ read_receive send (words (drop at line))
   unfolding read_receive
-  receive-none s = rw (found_none line at start end f s) (spells_out line send Absent)
+  receive-none s = rw (found_none line at _ _ f s)
 
-  module _ (d : start ≡ end → ⊥) where
+  module _ (d : word.start ≡ word.end → ⊥) where
     -- the word `receive`
-    pub receive-word : same_numbers (between start end line) (ascii "receive") ≡ true → read_wait send (words (drop end line)) ≡ read_receive send (words (drop at line))
+    pub receive-word : same_numbers (between word.start word.end line) (ascii "receive") ≡ true → read_wait send (words (drop word.end line)) ≡ read_receive send (words (drop at line))
     unfolding read_receive
-    receive-word e = rw (found_word line at start end f d, e)
+    receive-word e = rw (found_word line at _ _ f d, e)
 
     -- another
-    pub receive_other : same_numbers (between start end line) (ascii "receive") ≡ false → Spells line (read_receive send (words (drop at line))) (misspelling no_part start end)
+    pub receive_other : same_numbers (between word.start word.end line) (ascii "receive") ≡ false → Refuses line misspelled (read_receive send (words (drop at line))) (record { reason = NoPart; word = word })
     unfolding read_receive
-    receive_other e = rw (found_word line at start end f d, e) (spells_wrong line no_part start end (record { ordered = f.ordered; within = f.within }) (omega arith))
+    receive_other e = record { word = placed_word f; means = rw (found_word line at _ _ f d, e) }
 
 -- ---- a send part
-module _ (line : List ℕ) (send : SendPart) (at start end : ℕ) (f : Found line at start end) where
+module _ (line : List ℕ) (at : ℕ) (word : Span) (f : Found line at word.start word.end) (send : SendPart) where
   -- no word is left
-  pub words-end : start ≡ end → read_receive send (words (drop at line)) ≡ read_words send (words (drop at line))
+  pub words-end : word.start ≡ word.end → read_receive send (words (drop at line)) ≡ read_words send (words (drop at line))
   unfolding read_words
-  words-end s = rw (found_none line at start end f s)
+  words-end s = rw (found_none line at _ _ f s)
 
-  module _ (d : start ≡ end → ⊥) where
+  module _ (d : word.start ≡ word.end → ⊥) where
     -- the word `receive`
-    pub words-receive : same_numbers (between start end line) (ascii "receive") ≡ true → read_receive send (words (drop at line)) ≡ read_words send (words (drop at line))
+    pub words-receive : same_numbers (between word.start word.end line) (ascii "receive") ≡ true → read_receive send (words (drop at line)) ≡ read_words send (words (drop at line))
     unfolding read_words
-    words-receive e = rw (found_word line at start end f d, e)
+    words-receive e = rw (found_word line at _ _ f d, e)
 
-    module _ (e : same_numbers (between start end line) (ascii "receive") ≡ false) (amount : Amount) (m : Measured (code "w") (digits_of (code "w") (between start end line)) amount) where
+    module _ (e : same_numbers (between word.start word.end line) (ascii "receive") ≡ false) where
       -- what is no word of a message
-      pub words-wrong : (amount.reason ≡ 0 → ⊥) → Spells line (read_words send (words (drop at line))) (misspelling amount.reason start end)
+      pub words-wrong : (m : Misread) → Valued (code "w") line word (Err m) → Refuses line misspelled (read_words send (words (drop at line))) m
       unfolding read_words wrong_number
-      words-wrong n = rw (found_word line at start end f d, e, ← m.reason, unless-some (λ reason. misspelled reason (between start end line)) (read_words (with_word (value (between start end line)) send) (words (drop end line))) amount.reason n)
-          (spells_wrong line amount.reason start end (record { ordered = f.ordered; within = f.within }) n)
+      words-wrong m v = record {
+        word = rw v.0 (placed_word f);
+        means = rw (v.0, found_word line at _ _ f d, e, v.1) (sym (unless-told _ _ m.reason));
+      }
 
       -- what is one
-      pub words_more : amount.reason ≡ 0 → read_words (with_word amount.value send) (words (drop end line)) ≡ read_words send (words (drop at line))
+      pub words_more : (number : ℕ) → Valued (code "w") line word (Ok number) → read_words (with_word number send) (words (drop word.end line)) ≡ read_words send (words (drop at line))
       unfolding read_words wrong_number digits_of is_negative takes_sign takes_choice
-      words_more z = rw (found_word line at start end f d, e, m.which z) (sym (unless-none _ _ _ (sym m.reason ∙ z)))
+      words_more number v = rw (found_word line at _ _ f d, e, v.1) (sym (unless-none _ _ _ v.0))
 
-module _ (line before after : List ℕ) (at most : ℕ) (last : Cursor) (a : Advanced line after (read_numbers (ascii "bb") (progress line before (starting_at at))) most last) where
-  -- what the cursor stands for
-  numbers-read : read_numbers (ascii "bb") (reached [] (words (drop at line))) ≡ progress line after last
-  unfolding progress unless
-  numbers-read = sym a.means
-
+module _ (line : List ℕ) (left : List (List ℕ)) where
   -- the numbers behind `send` were not read
-  pub send-stopped : (last.reason ≡ 0 → ⊥) → Spells line (read_send (read_numbers (ascii "bb") (reached [] (words (drop at line))))) (misspelling last.reason last.start last.end)
+  pub send-refused : {m : Misread} → Refuses line stopped (read_numbers (ascii "bb") (reached [] left)) m → Refuses line misspelled (read_send (read_numbers (ascii "bb") (reached [] left))) m
   unfolding read_send
-  send-stopped d = rw (numbers-read ∙ progress-stopped line after last d) (spells_wrong line _ _ _ a.stands.word d)
+  send-refused r = refuses_through misspelled read_send (λ reason word. refl) r
 
   -- they were
-  pub send-read : last.reason ≡ 0
+  pub send-read : (after : List ℕ) (most : ℕ) (last : Cursor) → Reaches line after (read_numbers (ascii "bb") (reached [] left)) most last
       → read_words (record { present = true; target = get_or after 0 0 % 256; count = 0; time = get_or after 1 0 % 256; words = replicate 8 0 }) (words (drop last.at line))
-      ≡ read_send (read_numbers (ascii "bb") (reached [] (words (drop at line))))
+      ≡ read_send (read_numbers (ascii "bb") (reached [] left))
   unfolding read_send empty_send
-  send-read z =
-      let read = numbers-read ∙ progress-reached line after last z in
-      let b = two_bytes _ _ _ read in
-      rw (read, low_first after last.count b, low_second after last.count b)
+  send-read after most last a =
+      let b = two_bytes _ left _ (sym a.means) in
+      rw (← a.means, low_first after last.count b, low_second after last.count b)
 
 -- ---- an operation
 module _ (left : List (List ℕ)) where

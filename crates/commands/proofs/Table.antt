@@ -1,12 +1,11 @@
 -- The rows of the grammar: which row a word names, found row by row, and the letters of a row.
-use mathlib.Core.Path.{◌≡◌, refl, sym, ap, ◌∙◌}
+use mathlib.Core.Path.{◌≡◌, refl, ap, ◌∙◌}
 use mathlib.Core.Bool.{true, false}
 use mathlib.Core.List.{List, [], ◌∷◌}
 use Prim.Native.Nat.{ℕ, zero, suc, ◌+◌, ◌-◌, ◌*◌, ◌≤◌, ◌<◌}
 use native.Mathlib.Numerals.{add-one}
 use native.Mathlib.Omega.{arith}
-use lib.ListN.{length, take, drop, get_or}
-use lib.Seq.{take-take}
+use lib.ListN.{length, take, drop, get_or, length-take}
 use borrow.Author.Tests.{not-true, not-false}
 use Rattle.model.specs.Lists.{up_to, concat}
 use Rattle.model.specs.Bondtrace.{ascii}
@@ -16,6 +15,7 @@ use Rattle.language.specs.Runs.{each}
 use Rattle.language.proofs.Words.{each_first, each-rest}
 use Rattle.scanning.specs.Scanned.{between, Run, of_word}
 use Rattle.scanning.proofs.Runs.{between-length}
+use Rattle.commands.specs.declared.rows.TheConstants.{GRAMMAR}
 use Rattle.commands.specs.Standing.{Letters}
 
 -- the table has its rows
@@ -23,11 +23,10 @@ pub grammar-length : length grammar ≡ row_length * rows
 unfolding grammar concat ascii up_to
 grammar-length = refl
 
--- what a list has at a place does not depend on what stands past its end
-pub same-inside : (l : List ℕ) (i d e : ℕ) → i < length l → get_or l i d ≡ get_or l i e
-same-inside [] i d e lt = absurd (omega arith)
-same-inside (a ∷ l) zero d e lt = refl
-same-inside (a ∷ l) (suc i) d e lt = same-inside l i d e (omega arith)
+-- they are those of the program
+pub table-grammar : GRAMMAR ≡ grammar
+unfolding grammar concat ascii up_to
+table-grammar = refl
 
 -- ---- the row of a word
 module _ (word : List ℕ) (end row : ℕ) (inside : row < end) where
@@ -76,15 +75,17 @@ module _ (row stop : ℕ) (inside : row < rows) where
       let width : start + most_numbers - start ≡ most_numbers = omega arith in
       between-length grammar start (start + most_numbers) (omega arith) (omega (arith, grammar-length)) ∙ width
 
-  -- the letters stand between two of them
-  pub letters_found : Run of_word field 0 stop → Letters row start (start + stop)
+  -- the letters are its first bytes
+  letters-front : Run of_word field 0 stop → Letters row (take stop field)
   unfolding number_letters
-  letters_found r =
+  letters-front r =
       let few : stop ≤ 7 = omega (arith, field-length, r.passing.within) in
       let width : start + most_numbers - start ≡ most_numbers = omega arith in
-      let all : stop - 0 ≡ stop = omega arith in
-      let first : start + stop - start ≡ stop = omega arith in record {
-        ordered = omega arith;
-        few = omega arith;
-        are = rw first (sym (take-take stop most_numbers (drop start grammar) few) ∙ rw width at (until_run field stop r.passing.within (rw all at r.passing.pass) r.stops));
+      let all : stop - 0 ≡ stop = omega arith in record {
+        few = simp length-take (omega arith);
+        are = until_run field stop r.passing.within (rw all at r.passing.pass) r.stops ∙ ap (λ (k : ℕ). until_blank (take k (drop start grammar))) width;
       }
+
+  -- in the program's table too
+  pub letters_found : (table : List ℕ) → table ≡ grammar → Run of_word (between start (start + most_numbers) table) 0 stop → Letters row (take stop (between start (start + most_numbers) table))
+  letters_found table e r = rw e (letters-front (rw e at r))

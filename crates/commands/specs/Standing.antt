@@ -1,36 +1,25 @@
 -- What the structs of this crate stand for, and what its functions promise of them.
-use Rattle.std.specs.Prelude.{◌≡◌, cond, List, [], ◌++◌, ℕ, ◌+◌, ◌≤◌, eqb, length, take, drop}
+use Rattle.std.specs.Prelude.{◌≡◌, cond, List, [], ◌++◌, ℕ, ◌≤◌, eqb, length, take, drop, Option, Some, None, Result, Ok, Err}
 use Rattle.model.specs.declared.Operation.{Operation}
-use Rattle.model.specs.declared.SendPart.{SendPart}
-use Rattle.model.specs.declared.Receive.{Receive}
-use Rattle.model.specs.Threads.{no_operation}
 use Rattle.model.specs.Refusals.{unless}
 use Rattle.language.specs.Words.{words}
-use Rattle.language.specs.Grammar.{grammar, most_numbers, first_field, set_row, find_row, number_letters}
-use Rattle.language.specs.Commands.{wrong_number, kept, Progress, stopped, reached, read_numbers, read_more, Spelled, misspelled, spelled, Command, skipped, wrong, asked, read_row, read_field, no_command}
+use Rattle.language.specs.Grammar.{most_numbers, first_field, set_row, find_row, number_letters}
+use Rattle.language.specs.Commands.{digits_of, wrong_number, kept, Progress, stopped, reached, read_numbers, read_more, Spelled, misspelled, spelled, Command, skipped, wrong, asked, read_row, read_field, no_command}
 use Rattle.scanning.specs.Scanned.{between}
-use Rattle.commands.specs.declared.Parsed.{Parsed}
-use Rattle.commands.specs.declared.Cursor.{Cursor}
-use Rattle.commands.specs.declared.Parts.{Parts}
+use Rattle.scanning.specs.declared.Span.{Span}
+use Rattle.letters.specs.Measured.{Measured, number_of}
+use Rattle.commands.specs.declared.Misread.{Misread}
+use Rattle.commands.specs.declared.Asked.{Asked}
+use Rattle.commands.specs.declared.cursors.Cursor.{Cursor}
 
 -- ---- what the structs stand for
 -- how far a line is read
-unfoldable pub progress : List ℕ → List ℕ → Cursor → Progress
-progress line numbers cursor =
-    unless cursor.reason (λ reason. stopped reason (between cursor.start cursor.end line)) (reached (take cursor.count numbers) (words (drop cursor.at line)))
+abbrev pub progress : List ℕ → List ℕ → Cursor → Progress
+progress line numbers cursor = reached (take cursor.count numbers) (words (drop cursor.at line))
 
--- the operation that words spell
-unfoldable pub spelling : List ℕ → Parts → Spelled
-spelling line parts = unless parts.reason (λ reason. misspelled reason (between parts.start parts.end line)) (spelled parts.op)
-
--- the row of a line that is skipped
-abbrev pub nothing : ℕ
-nothing = 255
-
--- the command that a line is
-unfoldable pub meant : List ℕ → List ℕ → Parsed → Command
-meant line numbers r =
-    unless r.reason (λ reason. wrong reason (between r.start r.end line)) (cond (eqb r.row nothing) skipped (asked r.row (take r.count numbers) r.op))
+-- the command that a row is, with its numbers and its operation
+abbrev pub meant : List ℕ → Asked → Command
+meant numbers a = asked a.row (take a.count numbers) a.op
 
 -- ---- room for numbers, two for each that is read: its sign and its value
 -- for those of a row
@@ -51,33 +40,52 @@ pub record Placed (line : List ℕ) (start end : ℕ) : Type 0 where
   pub ordered : start ≤ end
   pub within : end ≤ length line
 
--- the places of a cursor lie within the line
-pub record Stands (line : List ℕ) (cursor : Cursor) : Type 0 where
-  pub word : Placed line cursor.start cursor.end
-  pub behind : cursor.at ≤ length line
+-- the word that is wrong lies within the line, and the refusal with its reason is what the line comes to
+pub record Refuses {A : Type 0} (line : List ℕ) (refusal : ℕ → List ℕ → A) (a : A) (m : Misread) : Type 0 where
+  pub word : Placed line m.word.start m.word.end
+  pub means : refusal (number_of m.reason) (between m.word.start m.word.end line) ≡ a
 
--- a cursor stands for some progress, and counts at most so many numbers
-pub record Advanced (line numbers : List ℕ) (p : Progress) (most : ℕ) (cursor : Cursor) : Type 0 where
-  pub stands : Stands line cursor
+-- a word is a number of its letter, or it is why it is none
+abbrev pub Valued : ℕ → List ℕ → Span → Result ℕ Misread → Type 0
+Valued letter line word (Ok value) = Measured letter (digits_of letter (between word.start word.end line)) (Ok value)
+Valued letter line word (Err m) = (m.word ≡ word) × Measured letter (digits_of letter (between word.start word.end line)) (Err m.reason)
+
+-- a cursor stands within the line and for some progress, and counts at most so many numbers
+pub record Reaches (line numbers : List ℕ) (p : Progress) (most : ℕ) (cursor : Cursor) : Type 0 where
+  pub behind : cursor.at ≤ length line
   pub few : cursor.count ≤ most
   pub means : progress line numbers cursor ≡ p
 
--- parts stand for what words spell
-pub record Spells (line : List ℕ) (s : Spelled) (parts : Parts) : Type 0 where
-  pub word : Placed line parts.start parts.end
-  pub means : spelling line parts ≡ s
+-- reading went on, or stopped
+abbrev pub Advanced : List ℕ → List ℕ → Progress → ℕ → Result Cursor Misread → Type 0
+Advanced line numbers p most (Ok cursor) = Reaches line numbers p most cursor
+Advanced line numbers p most (Err m) = Refuses line stopped p m
 
--- what is returned stands for a command; its word lies within the line, and its numbers within the slice
-pub record Parses (line numbers : List ℕ) (c : Command) (r : Parsed) : Type 0 where
-  pub word : Placed line r.start r.end
-  pub few : r.count ≤ length numbers
-  pub means : meant line numbers r ≡ c
+-- an operation is what words spell, or they spell none
+abbrev pub Spells : List ℕ → Spelled → Result Operation Misread → Type 0
+Spells line s (Ok op) = spelled op ≡ s
+Spells line s (Err m) = Refuses line misspelled s m
 
--- the letters of a row's numbers stand between two places of the grammar
-pub record Letters (row start end : ℕ) : Type 0 where
-  pub ordered : start ≤ end
-  pub few : end ≤ start + most_numbers
-  pub are : between start end grammar ≡ number_letters row
+-- a row is the command that a line is; its numbers lie within the slice
+pub record Asks (numbers : List ℕ) (c : Command) (a : Asked) : Type 0 where
+  pub few : a.count ≤ length numbers
+  pub means : meant numbers a ≡ c
+
+-- a line asks for a row, or is no command
+abbrev pub Demands : List ℕ → List ℕ → Command → Result Asked Misread → Type 0
+Demands line numbers c (Ok a) = Asks numbers c a
+Demands line numbers c (Err m) = Refuses line wrong c m
+
+-- or it is skipped
+abbrev pub Parses : List ℕ → List ℕ → Command → Result (Option Asked) Misread → Type 0
+Parses line numbers c (Ok None) = skipped ≡ c
+Parses line numbers c (Ok (Some a)) = Asks numbers c a
+Parses line numbers c (Err m) = Refuses line wrong c m
+
+-- these are the letters of a row's numbers
+pub record Letters (row : ℕ) (letters : List ℕ) : Type 0 where
+  pub few : length letters ≤ most_numbers
+  pub are : letters ≡ number_letters row
 
 -- a word read as one number more
 unfoldable pub one_more : ℕ → List ℕ → List ℕ → List (List ℕ) → Progress
@@ -88,15 +96,7 @@ unfoldable pub read_on : ℕ → ℕ → Progress → Progress
 read_on letter most (stopped reason word) = stopped reason word
 read_on letter most (reached numbers left) = read_more letter most numbers left
 
--- ---- what is returned of a line
--- a line that is no command; it is skipped where the reason is 0
-abbrev pub failing : ℕ → ℕ → ℕ → Parsed
-failing reason start end = record { reason = reason; start = start; end = end; row = nothing; count = 0; op = no_operation }
-
--- a line that asks for a row
-abbrev pub asking : ℕ → ℕ → Operation → Parsed
-asking row count op = record { reason = 0; start = 0; end = 0; row = row; count = count; op = op }
-
+-- ---- what a line comes to
 -- a line by its first word and those behind it
 unfoldable pub from_first : List ℕ → List (List ℕ) → Command
 from_first word left =
@@ -104,16 +104,3 @@ from_first word left =
     cond (eqb row first_field) (wrong no_command word)
     (cond (eqb row set_row) (read_field (read_numbers (number_letters row) (reached [] left)))
     (read_row row (reached [] left)))
-
--- ---- what is returned of an operation
--- words that spell none
-abbrev pub misspelling : ℕ → ℕ → ℕ → Parts
-misspelling reason start end = record { reason = reason; start = start; end = end; op = no_operation }
-
--- an operation by its parts
-abbrev pub spelling_out : SendPart → Receive → Parts
-spelling_out send receive = record { reason = 0; start = 0; end = 0; op = record { send = send; receive = receive } }
-
--- the cursor at a place where no number is read yet
-abbrev pub starting_at : ℕ → Cursor
-starting_at at = record { reason = 0; start = at; end = at; at = at; count = 0 }

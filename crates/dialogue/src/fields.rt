@@ -1,57 +1,27 @@
-// The commands that lend a store, records or places, note a row of rules, or set a field by force, as no call would.
-use crate::sessions::{Reply, Session, only_text};
-use commands::Parsed;
+// The commands that lend a store, records or places, note a row of rules, or set a field by force, as no call would. Each answers where the text of its answer ends.
+use crate::sessions::Session;
+use commands::{Asked, Reason};
 use forcing::{byte_at, number_at};
 use model::{Range, Rule};
 use telling::put_word;
 
-// A session and the word `lent`.
-fn lent(session: Session, out: &mut [u8]) -> Reply {
-    let end = put_word(out, b"lent");
-    Reply {
-        session: session,
-        end: end,
-    }
-}
-
-// A session and the word `set`.
-fn was_set(session: Session, out: &mut [u8]) -> Reply {
-    let end = put_word(out, b"set");
-    Reply {
-        session: session,
-        end: end,
-    }
-}
-
-// The same in every word.
-pub fn spread(store: &mut [u32], word: u32) {
-    let mut i: usize = 0;
-    while i < store.len() {
-        store[i] = word;
-        i += 1;
-    }
-}
-
 // From now on a store of so many words, each the same, is lent.
-pub fn store(session: Session, named: &[u32], store: &mut [u32], out: &mut [u8]) -> Reply {
-    let mut next = session;
-    next.words = number_at(named, 0) as usize;
-    spread(store, number_at(named, 1));
-    lent(next, out)
+pub fn store(session: &mut Session, named: &[u32], store: &mut [u32], out: &mut [u8]) -> usize {
+    session.words = number_at(named, 0) as usize;
+    store.fill(number_at(named, 1));
+    put_word(out, b"lent")
 }
 
 // From now on so many records are lent.
-pub fn records(session: Session, named: &[u32], out: &mut [u8]) -> Reply {
-    let mut next = session;
-    next.records = number_at(named, 0) as usize;
-    lent(next, out)
+pub fn records(session: &mut Session, named: &[u32], out: &mut [u8]) -> usize {
+    session.records = number_at(named, 0) as usize;
+    put_word(out, b"lent")
 }
 
 // From now on so many places are lent to a count.
-pub fn places(session: Session, named: &[u32], out: &mut [u8]) -> Reply {
-    let mut next = session;
-    next.places = number_at(named, 0) as usize;
-    lent(next, out)
+pub fn places(session: &mut Session, named: &[u32], out: &mut [u8]) -> usize {
+    session.places = number_at(named, 0) as usize;
+    put_word(out, b"lent")
 }
 
 // The most rows that are noted. Those from the 65th on are counted, and not kept.
@@ -70,52 +40,39 @@ fn row_of(named: &[u32]) -> Rule {
         to: byte_at(named, 3),
     };
     Rule {
-        senders: senders,
-        targets: targets,
+        senders,
+        targets,
         permits: number_at(named, 4) == 1,
     }
 }
 
 // A row for the next loading.
-pub fn rule(session: Session, number: u64, named: &[u32], out: &mut [u8]) -> Reply {
+pub fn rule(session: &mut Session, number: u64, named: &[u32], out: &mut [u8]) -> usize {
     let mut noted = session.noted;
-    let count = noted.len;
-    if MOST_NOTED <= count {
-        let end = replies::put_error(out, 0, number, replies::ROWS_FULL, b"");
-        return only_text(session, end);
+    if MOST_NOTED <= noted.len {
+        return replies::put_error(out, 0, number, Reason::RowsFull, b"");
     }
-    if count < MOST_KEPT {
-        let k = count as usize;
-        noted.rows[k] = row_of(named);
+    if noted.len < MOST_KEPT {
+        noted.rows[noted.len as usize] = row_of(named);
     }
-    noted.len = count + 1;
-    let mut next = session;
-    next.noted = noted;
-    let end = put_word(out, b"noted");
-    Reply {
-        session: next,
-        end: end,
-    }
+    noted.len += 1;
+    session.noted = noted;
+    put_word(out, b"noted")
 }
 
 // The table's N.
-pub fn size(session: Session, named: &[u32], out: &mut [u8]) -> Reply {
-    let mut table = session.table;
-    table.n = byte_at(named, 0);
-    let mut next = session;
-    next.table = table;
-    was_set(next, out)
+pub fn size(session: &mut Session, named: &[u32], out: &mut [u8]) -> usize {
+    session.table.n = byte_at(named, 0);
+    put_word(out, b"set")
 }
 
 // A field of a thread of the array.
-pub fn set(session: Session, command: Parsed, named: &[u32], out: &mut [u8]) -> Reply {
+pub fn set(session: &mut Session, command: Asked, named: &[u32], out: &mut [u8]) -> usize {
     let x = number_at(named, 0) as usize;
     let mut table = session.table;
-    let mut next = session;
     if x < 32 {
-        let thread = table.threads[x];
-        table.threads[x] = forcing::changed(thread, command, named);
+        table.threads[x] = forcing::changed(table.threads[x], command, named);
     }
-    next.table = table;
-    was_set(next, out)
+    session.table = table;
+    put_word(out, b"set")
 }

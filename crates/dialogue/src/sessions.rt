@@ -4,13 +4,12 @@ ghost use Rattle.commands.specs.Standing.{line_room};
 
 use crate::{calls, fields, logged};
 use commands::{
-    BEGIN_ROW, CANCEL_ROW, COMPARE_ROW, COUNT_ROW, HELP_ROW, OUTCOME_ROW, PLACES_ROW, Parsed,
+    Asked, BEGIN_ROW, CANCEL_ROW, COMPARE_ROW, COUNT_ROW, HELP_ROW, OUTCOME_ROW, PLACES_ROW,
     RECORDS_ROW, REPORT_ROW, RULE_ROW, RULES_ROW, SAY_ROW, SEARCH_ROW, SENT_ROW, SHOW_ROW,
     SIZE_ROW, SPARK_ROW, STEP_ROW, STORE_ROW, TABLE_ROW, TICK_ROW,
 };
 use forcing::{byte_at, number_at};
-use model::{Rules, Table};
-use numbers::lesser;
+use model::{EntryPoint, Rules, Table};
 
 // What a dialogue keeps: a table, how many words are lent as a store, how many records to the report, the rows noted for the next loading, how many places are lent to a count, and how many entries the logs of sends and of receives have.
 #[derive(Clone, Copy)]
@@ -44,28 +43,20 @@ pub fn new_session() -> Session {
     }
 }
 
-// A reply that leaves everything as it was.
-pub fn only_text(session: Session, end: usize) -> Reply {
-    Reply {
-        session: session,
-        end: end,
-    }
-}
-
 // The calls that change the table.
 fn called(
-    session: Session,
-    command: Parsed,
+    session: &mut Session,
+    command: Asked,
     numbers: &[u32],
     store: &mut [u32],
     out: &mut [u8],
-) -> Reply {
+) -> usize {
     let row = command.row;
     let x = byte_at(numbers, 0);
     match row {
         TABLE_ROW => calls::table(session, x, store, out),
-        BEGIN_ROW => calls::begin(session, x, command.op, store, out),
-        SPARK_ROW => calls::spark(session, x, command.op, store, out),
+        BEGIN_ROW => calls::begin(session, EntryPoint::Main, x, command.op, store, out),
+        SPARK_ROW => calls::begin(session, EntryPoint::Spark, x, command.op, store, out),
         STEP_ROW => calls::step(session, numbers, store, out),
         CANCEL_ROW => calls::cancel(session, x, out),
         RULES_ROW => calls::rules(session, out),
@@ -76,12 +67,12 @@ fn called(
 // The words behind `say`.
 fn said(line: &[u8], out: &mut [u8]) -> usize {
     let end = scanning::without_return(line);
-    replies::put_said(out, 0, &line[0..end])
+    replies::put_said(out, 0, &line[..end])
 }
 
 // The commands that only print: where the text ends.
 fn told(
-    session: Session,
+    session: &Session,
     row: u8,
     numbers: &[u32],
     line: &[u8],
@@ -89,8 +80,8 @@ fn told(
     out: &mut [u8],
 ) -> usize {
     let table = session.table;
-    let words = lesser(session.words, store.len());
-    let lent = &store[0..words];
+    let words = session.words.min(store.len());
+    let lent = &store[..words];
     let x = byte_at(numbers, 0);
     match row {
         OUTCOME_ROW => telling::outcome(table, x, lent, out),
@@ -103,33 +94,15 @@ fn told(
     }
 }
 
-// Whether a command only prints.
-fn only_prints(row: u8) -> bool {
-    match row {
-        OUTCOME_ROW | REPORT_ROW | SHOW_ROW | SAY_ROW | SEARCH_ROW | COUNT_ROW | HELP_ROW => true,
-        _ => false,
-    }
-}
-
-// Whether a command calls the engine.
-fn calls_engine(row: u8) -> bool {
-    (row <= TICK_ROW) | (row == SPARK_ROW) | (row == RULES_ROW)
-}
-
-// Whether a command is on the logs of sends and of receives.
-fn on_logs(row: u8) -> bool {
-    (SENT_ROW <= row) & (row <= COMPARE_ROW)
-}
-
 // The commands that lend something, note a row of rules, or set something by force.
 fn forced(
-    session: Session,
-    command: Parsed,
+    session: &mut Session,
+    command: Asked,
     number: u64,
     numbers: &[u32],
     store: &mut [u32],
     out: &mut [u8],
-) -> Reply {
+) -> usize {
     let row = command.row;
     match row {
         STORE_ROW => fields::store(session, numbers, store, out),
@@ -141,29 +114,28 @@ fn forced(
     }
 }
 
-// Does what a command asks for.
+// Does what a command asks for: where the text of the answer ends.
 fn done(
-    session: Session,
-    command: Parsed,
+    session: &mut Session,
+    command: Asked,
     line: &[u8],
     number: u64,
     numbers: &[u32],
     store: &mut [u32],
     entries: &mut [u32],
     out: &mut [u8],
-) -> Reply {
+) -> usize {
     let row = command.row;
-    if only_prints(row) {
-        let end = told(session, row, numbers, line, store, out);
-        return only_text(session, end);
+    match row {
+        TABLE_ROW..=TICK_ROW | SPARK_ROW | RULES_ROW => {
+            called(session, command, numbers, store, out)
+        }
+        OUTCOME_ROW | REPORT_ROW | SHOW_ROW | SAY_ROW | SEARCH_ROW | COUNT_ROW | HELP_ROW => {
+            told(session, row, numbers, line, store, out)
+        }
+        SENT_ROW..=COMPARE_ROW => { logged::recorded(session, row, number, numbers, entries, out) }
+        _ => forced(session, command, number, numbers, store, out),
     }
-    if on_logs(row) {
-        return logged::recorded(session, row, number, numbers, entries, out);
-    }
-    if calls_engine(row) {
-        return called(session, command, numbers, store, out);
-    }
-    forced(session, command, number, numbers, store, out)
 }
 
 // Does what a line asks for, and puts the answer at the front of `out`. The numbers are where those of the line are put, the store is what is lent from, and the entries are those of the logs.
@@ -178,17 +150,17 @@ pub fn respond(
 ) -> Reply
     requires { line_room ≤ length numbers.old }
 {
-    let command = commands::command(line, numbers);
-    if command.reason != 0 {
-        let start = command.start;
-        let stop = command.end;
-        let end = replies::put_error(out, 0, number, command.reason, &line[start..stop]);
-        return only_text(session, end);
-    }
-    if command.row == commands::NOTHING {
-        return only_text(session, 0);
-    }
-    let count = command.count;
-    let read = &numbers[0..count];
-    done(session, command, line, number, read, store, entries, out)
+    let mut next = session;
+    let end = match commands::command(line, numbers) {
+        Ok(None) => 0,
+        Ok(Some(command)) => {
+            let read = &numbers[..command.count];
+            done(&mut next, command, line, number, read, store, entries, out)
+        }
+        Err(misread) => {
+            let word = &line[misread.word.start..misread.word.end];
+            replies::put_error(out, 0, number, misread.reason, word)
+        }
+    };
+    Reply { session: next, end }
 }

@@ -1,9 +1,9 @@
 -- A number by its letter: bounds of its largest and its least, and what is found of the digits of a word.
-use mathlib.Core.Path.{◌≡◌, refl, sym, ◌∙◌}
+use mathlib.Core.Path.{◌≡◌, refl, sym}
 use mathlib.Core.Logic.{◌≢◌}
 use mathlib.Core.Bool.{Bool, true, false, cond}
 use mathlib.Core.List.{List, [], ◌∷◌}
-use Prim.Native.Nat.{ℕ, ◌-◌, ◌≤◌, ◌<◌, min}
+use Prim.Native.Nat.{ℕ, ◌-◌, ◌≤◌, ◌<◌}
 use native.Mathlib.Omega.{arith}
 use lib.Dec.{ltb, lit<}
 use lib.ListN.{length, drop, length-drop}
@@ -11,7 +11,8 @@ use lib.Seq.{take_all}
 use borrow.Author.Tests.{lt-ltb, le-ltb}
 use Rattle.model.specs.Refusals.{first_refusal}
 use Rattle.model.proofs.Laws.{by, and_right}
-use Rattle.language.specs.Words.{value}
+use Rattle.std.specs.Prelude.{Some, Ok}
+use Rattle.language.specs.Words.{is_number, value}
 use Rattle.language.specs.Grammar.{largest, least, takes_sign, takes_choice, most_more}
 use Rattle.language.specs.Commands.{not_number, too_large, too_small, is_negative, choice_digits, digits_of, reason_for, wrong_digits}
 use Rattle.scanning.specs.Scanned.{between, cap, NumberRead}
@@ -66,43 +67,33 @@ pub reason-there : (letter reason : ℕ) → reason ≢ 0 → reason_for letter 
 unfolding reason_for
 reason-there letter reason d = by (takes_choice letter) (λ e. rw e (λ z. omega arith)) (λ e. rw e d)
 
-module _ (letter : ℕ) (word : List ℕ) {digits : Bool} {number : ℕ} (n : NumberRead word digits number) where
+module _ (letter : ℕ) (word : List ℕ) where
   -- what is no number
-  pub measured-none : digits ≡ false → (reason : ℕ) → reason ≡ reason_for letter not_number → Measured letter word (record { reason = reason; value = 0 })
+  pub measured-none : is_number word ≡ false → wrong_digits letter word ≡ reason_for letter not_number
   unfolding wrong_digits first_refusal
-  measured-none e reason is = record { reason = rw (sym n.is ∙ e) is; which = λ z. absurd (reason-there letter not_number (λ w. omega arith) (sym is ∙ z)) }
+  measured-none e = rw e
 
-  module _ (e : digits ≡ true) where
-    -- it is read
-    read : number ≡ min (value word) cap
-    read = n.which (sym n.is ∙ e)
-
+  module _ {number : ℕ} (n : NumberRead word (Some number)) where
     -- one that is too large
-    pub measured-large : largest letter < number → Measured letter word (record { reason = too_large; value = 0 })
+    pub measured-large : largest letter < number → wrong_digits letter word ≡ too_large
     unfolding wrong_digits first_refusal
-    measured-large l = record {
-      reason = rw (sym n.is ∙ e, lt-ltb (largest letter) (value word) (omega (arith, read))) refl;
-      which = λ z. absurd (omega arith);
-    }
+    measured-large l = rw (n.0, lt-ltb (largest letter) (value word) (omega (arith, n.1)))
 
     module _ (l : number ≤ largest letter) where
       -- it is the number that was read
-      same : value word ≡ number
-      same = omega (arith, read, largest-below letter)
+      same : number ≡ value word
+      same = omega (arith, n.1, largest-below letter)
 
       -- it is not too large
       not-large : ltb (largest letter) (value word) ≡ false
-      not-large = le-ltb (largest letter) (value word) (rw same l)
+      not-large = le-ltb (largest letter) (value word) (omega (arith, same))
 
       -- one that is too small
-      pub measured-small : number < least letter → Measured letter word (record { reason = too_small; value = 0 })
+      pub measured-small : number < least letter → wrong_digits letter word ≡ too_small
       unfolding wrong_digits first_refusal
-      measured-small s = record {
-        reason = rw (sym n.is ∙ e, not-large, lt-ltb (value word) (least letter) (rw same s)) refl;
-        which = λ z. absurd (omega arith);
-      }
+      measured-small s = rw (n.0, not-large, lt-ltb (value word) (least letter) (omega (arith, same)))
 
       -- one that is neither
-      pub measured_fine : least letter ≤ number → Measured letter word (record { reason = 0; value = number })
+      pub measured_fine : least letter ≤ number → Measured letter word (Ok number)
       unfolding wrong_digits first_refusal
-      measured_fine s = record { reason = rw (sym n.is ∙ e, not-large, le-ltb (value word) (least letter) (rw same s)) refl; which = λ z. sym same }
+      measured_fine s = (rw (n.0, not-large, le-ltb (value word) (least letter) (omega (arith, same))), same)

@@ -5,21 +5,31 @@
 ghost use Rattle.std.specs.Prelude.{◌≡◌};
 ghost use Rattle.language.specs.Grammar.{largest, least, takes_sign, most_more};
 ghost use Rattle.language.specs.Commands.{is_negative, choice_digits, digits_of, reason_for};
-ghost use Rattle.letters.specs.Measured.{Measured};
+ghost use Rattle.letters.specs.Measured.{Measured, number_of};
 
 use scanning::{is_word, number};
 
-// Why a word is no number of its letter.
-pub const NOT_NUMBER: u8 = 5;
-
-pub const TOO_LARGE: u8 = 6;
-
-pub const TOO_SMALL: u8 = 7;
-
-// Why a word is neither `yes` nor `no`.
-pub const NO_CHOICE: u8 = 12;
+// Why a line is no command, or is refused.
+#[derive(Clone, Copy, PartialEq, Eq)]
+pub enum Reason {
+    NoCommand,
+    NoField,
+    NoPart,
+    Missing,
+    NotNumber,
+    TooLarge,
+    TooSmall,
+    TooMuch,
+    TooLong,
+    NotRecord,
+    TableFirst,
+    NoChoice,
+    RowsFull,
+    LogFull,
+}
 
 // The letters: a flag, a thread, a record, a size of the store, a byte, a place of a queue, a word, ticks, a code with its sign, yes or no, and how many places are lent.
+// Kept: bytes, no enum. The table of the grammar holds them, and `largest`, `least` and `most_more` of language/specs/Grammar are told them.
 const FLAG: u8 = b'1';
 
 pub const THREAD: u8 = b't';
@@ -45,55 +55,33 @@ const PLACES: u8 = b'l';
 // What stands before a number below 0.
 const MINUS: u8 = b'-';
 
-// A number, or why a word is none.
-#[derive(Clone, Copy)]
-pub struct Amount {
-    pub reason: u8,
-    pub value: u32,
-}
-
 // The largest number of a letter.
+#[tactic(auto, unfolding(language::specs::Grammar::largest))]
 fn largest_of(letter: u8) -> u64
     ensures { result ≡ largest letter }
 {
-    if letter == FLAG {
-        return 1;
+    match letter {
+        FLAG => 1,
+        THREAD => 31,
+        RECORDS => 40,
+        SIZE => 320,
+        BYTE | QUEUED => 255,
+        WORD => 4294967295,
+        PLACES => 4200,
+        _ => 65535,
     }
-    if letter == THREAD {
-        return 31;
-    }
-    if letter == RECORDS {
-        return 40;
-    }
-    if letter == SIZE {
-        return 320;
-    }
-    if letter == BYTE {
-        return 255;
-    }
-    if letter == QUEUED {
-        return 255;
-    }
-    if letter == WORD {
-        return 4294967295;
-    }
-    if letter == PLACES {
-        return 4200;
-    }
-    65535
 }
 
 // The least.
+#[tactic(auto, unfolding(language::specs::Grammar::least))]
 fn least_of(letter: u8) -> u64
     ensures { result ≡ least letter }
 {
-    if letter == TICKS {
-        return 1;
-    }
-    0
+    if letter == TICKS { 1 } else { 0 }
 }
 
 // Whether it may have a sign.
+#[tactic(auto, unfolding(language::specs::Grammar::takes_sign))]
 pub fn takes_sign(letter: u8) -> bool
     ensures { result ≡ takes_sign letter }
 {
@@ -101,79 +89,54 @@ pub fn takes_sign(letter: u8) -> bool
 }
 
 // How many more numbers may follow.
+#[tactic(auto, unfolding(language::specs::Grammar::most_more))]
 pub fn most_more(letter: u8) -> usize
     ensures { result ≡ most_more letter }
 {
-    if letter == TICKS {
-        return 1;
+    match letter {
+        TICKS => 1,
+        QUEUED => 32,
+        BYTE | WORD => 2048,
+        _ => 0,
     }
-    if letter == QUEUED {
-        return 32;
-    }
-    if letter == BYTE {
-        return 2048;
-    }
-    if letter == WORD {
-        return 2048;
-    }
-    0
 }
 
 // Whether a number has a sign where one is allowed.
+#[tactic(auto, unfolding(language::specs::Commands::is_negative))]
 pub fn is_negative(letter: u8, word: &[u8]) -> bool
     ensures { result ≡ is_negative letter word.now }
 {
-    if !takes_sign(letter) {
-        return false;
-    }
-    if word.len() == 0 {
-        return false;
-    }
-    word[0] == MINUS
+    takes_sign(letter) && word.first() == Some(&MINUS)
 }
 
 // A reason why a number is none; of yes or no that it is neither.
-pub fn reason_for(letter: u8, reason: u8) -> u8
-    ensures { result ≡ reason_for letter reason }
+#[tactic(auto, unfolding(language::specs::Commands::reason_for, language::specs::Grammar::takes_choice))]
+pub fn reason_for(letter: u8, reason: Reason) -> Reason
+    ensures { number_of result ≡ reason_for letter (number_of reason) }
 {
     if letter == CHOICE {
-        return NO_CHOICE;
+        Reason::NoChoice
+    } else {
+        reason
     }
-    reason
 }
 
 // The number that digits are, where it is one of its letter.
-fn measured(letter: u8, digits: &[u8]) -> Amount
+fn measured(letter: u8, digits: &[u8]) -> Result<u32, Reason>
     ensures { Measured letter digits.now result }
 {
-    let read = number(digits);
-    if !read.digits {
-        return Amount {
-            reason: reason_for(letter, NOT_NUMBER),
-            value: 0,
-        };
-    }
-    let value = read.value;
+    let value = number(digits).ok_or(reason_for(letter, Reason::NotNumber))?;
     if largest_of(letter) < value {
-        return Amount {
-            reason: TOO_LARGE,
-            value: 0,
-        };
+        return Err(Reason::TooLarge);
     }
     if value < least_of(letter) {
-        return Amount {
-            reason: TOO_SMALL,
-            value: 0,
-        };
+        return Err(Reason::TooSmall);
     }
-    Amount {
-        reason: 0,
-        value: value as u32,
-    }
+    Ok(value as u32)
 }
 
 // `yes` as 1 and `no` as 0.
-fn chosen(letter: u8, word: &[u8]) -> Amount
+fn chosen(letter: u8, word: &[u8]) -> Result<u32, Reason>
     ensures { Measured letter (choice_digits word.now) result }
 {
     if is_word(word, b"yes") {
@@ -186,7 +149,7 @@ fn chosen(letter: u8, word: &[u8]) -> Amount
 }
 
 // The number that a word is without its sign.
-pub fn amount_of(letter: u8, word: &[u8]) -> Amount
+pub fn amount_of(letter: u8, word: &[u8]) -> Result<u32, Reason>
     ensures { Measured letter (digits_of letter word.now) result }
 {
     if letter == CHOICE {

@@ -5,60 +5,49 @@
 ghost use Rattle.std.specs.Prelude.{◌≡◌, ◌≤◌, length, drop};
 ghost use Rattle.language.specs.Words.{words};
 ghost use Rattle.language.specs.Commands.{reason_text};
+ghost use Rattle.letters.specs.Measured.{number_of};
 ghost use Rattle.text.specs.Writing.{written, Written};
 ghost use Rattle.replies.specs.Replied.{names_word, named_word, error_text, behind_spaces, joined_words, said_text};
 
+use letters::Reason;
 use scanning::next_word;
 use text::{NEWLINE, SPACE, Text};
 
-// Why a command is no line of a schedule.
-pub const NOT_RECORD: u8 = 10;
-
-pub const TABLE_FIRST: u8 = 11;
-
-// Why a row of rules is not kept.
-pub const ROWS_FULL: u8 = 13;
-
-// Why an entry of a log is not.
-pub const LOG_FULL: u8 = 14;
-
 // A reason in plain words.
-fn put_reason(out: &mut Text, reason: u8)
-    ensures { out.new ≡ written (reason_text reason) out.old }
+fn text_of(reason: Reason) -> &'static [u8]
+    ensures { result.now ≡ reason_text (number_of reason) }
 {
     match reason {
-        0 => out.bytes(b"no error"),
-        commands::NO_COMMAND => out.bytes(b"no such command"),
-        commands::NO_FIELD => out.bytes(b"no such field"),
-        commands::NO_PART => out.bytes(b"neither send nor receive"),
-        commands::MISSING => out.bytes(b"a number is missing"),
-        letters::NOT_NUMBER => out.bytes(b"not a number"),
-        letters::TOO_LARGE => out.bytes(b"number too large"),
-        letters::TOO_SMALL => out.bytes(b"number too small"),
-        commands::TOO_MUCH => out.bytes(b"too much on the line"),
-        commands::TOO_LONG => out.bytes(b"line too long"),
-        NOT_RECORD => out.bytes(b"no line of a schedule"),
-        TABLE_FIRST => out.bytes(b"table stands first, and only there"),
-        letters::NO_CHOICE => out.bytes(b"neither yes nor no"),
-        ROWS_FULL => out.bytes(b"no more than 80 rows are kept"),
-        LOG_FULL => out.bytes(b"no more than 520 entries are kept"),
-        _ => {}
+        Reason::NoCommand => b"no such command",
+        Reason::NoField => b"no such field",
+        Reason::NoPart => b"neither send nor receive",
+        Reason::Missing => b"a number is missing",
+        Reason::NotNumber => b"not a number",
+        Reason::TooLarge => b"number too large",
+        Reason::TooSmall => b"number too small",
+        Reason::TooMuch => b"too much on the line",
+        Reason::TooLong => b"line too long",
+        Reason::NotRecord => b"no line of a schedule",
+        Reason::TableFirst => b"table stands first, and only there",
+        Reason::NoChoice => b"neither yes nor no",
+        Reason::RowsFull => b"no more than 80 rows are kept",
+        Reason::LogFull => b"no more than 520 entries are kept",
     }
 }
 
 // Whether the word that is wrong is named: an empty one only between commas.
-fn names_word(reason: u8, word: &[u8]) -> bool
-    ensures { result ≡ names_word reason word.now }
+fn names_word(reason: Reason, word: &[u8]) -> bool
+    ensures { result ≡ names_word (number_of reason) word.now }
 {
-    if reason == letters::NOT_NUMBER {
-        return true;
+    match reason {
+        Reason::NotNumber => true,
+        _ => !word.is_empty(),
     }
-    word.len() != 0
 }
 
 // The word that is wrong, behind a colon, where it is named.
-fn put_named(out: &mut Text, reason: u8, word: &[u8])
-    ensures { out.new ≡ written (named_word reason word.now) out.old }
+fn put_named(out: &mut Text, reason: Reason, word: &[u8])
+    ensures { out.new ≡ written (named_word (number_of reason) word.now) out.old }
 {
     if names_word(reason, word) {
         out.bytes(b": ");
@@ -67,20 +56,21 @@ fn put_named(out: &mut Text, reason: u8, word: &[u8])
 }
 
 // The line that says why line n is no command.
-pub fn put_error(out: &mut [u8], start: usize, n: u64, reason: u8, word: &[u8]) -> usize
-    ensures { Written start (error_text n reason word.now) out.old out.new result }
+pub fn put_error(out: &mut [u8], start: usize, n: u64, reason: Reason, word: &[u8]) -> usize
+    ensures { Written start (error_text n (number_of reason) word.now) out.old out.new result }
 {
     let mut text = Text::at(out, start);
     text.bytes(b"error at line ");
     text.number(n);
     text.bytes(b": ");
-    put_reason(&mut text, reason);
+    text.bytes(text_of(reason));
     put_named(&mut text, reason, word);
     text.byte(NEWLINE);
     text.len()
 }
 
 // Words from a place of a line on, each behind a space.
+// Kept: a walk from word to word, as `words` of language/specs/Words has no iterator here: one would have laws longer than this loop.
 fn put_behind(out: &mut Text, line: &[u8], from: usize)
     requires { from ≤ length line.now }
     ensures { out.new ≡ written (behind_spaces (words (drop from line.now))) out.old }

@@ -2,6 +2,7 @@
 use mathlib.Core.Path.{◌≡◌, refl, sym, ap, ◌∙◌}
 use mathlib.Core.Bool.{true, false}
 use mathlib.Core.List.{List, ◌∷◌}
+use Rattle.std.specs.Prelude.{Some}
 use Prim.Native.Nat.{ℕ, ◌+◌, ◌-◌, ◌*◌, ◌≤◌, ◌<◌, min}
 use native.Mathlib.Numerals.{add-one}
 use native.Mathlib.Nat.{min-eq_left}
@@ -35,14 +36,10 @@ module _ (word : List ℕ) where
   unfolding value
   digits-start = record { within = omega arith; capped = omega arith; digits = refl; grows = refl }
 
-  -- a word that is no number
-  not-number : is_number word ≡ false → NumberRead word false 0
-  not-number e = record { is = sym e; which = λ t. cc }
-
   -- an empty word is none
-  pub digits-none : length word ≡ 0 → NumberRead word false 0
+  pub digits-none : length word ≡ 0 → is_number word ≡ false
   unfolding is_number
-  digits-none e = not-number (rw (is-empty word e))
+  digits-none e = rw (is-empty word e)
 
   module _ (number i : ℕ) (so_far : Digits word number i) where
     -- one digit more
@@ -57,17 +54,17 @@ module _ (word : List ℕ) where
         }
 
     -- a byte that is no digit
-    pub digits-stop : i < length word → is_digit (get_or word i 0) ≡ false → NumberRead word false 0
+    pub digits-stop : i < length word → is_digit (get_or word i 0) ≡ false → is_number word ≡ false
     unfolding all_digits is_number
     digits-stop lt other =
         let none : all_digits word ≡ false = sym so_far.digits ∙ ap all_digits (drop-cons word i 0 lt) ∙ rw other refl in
-        not-number (by (is_empty word) (λ e. rw e) (λ e. rw (e, none)))
+        by (is_empty word) (λ e. rw e) (λ e. rw (e, none))
 
     -- every byte is a digit
-    pub digits-all : 0 < length word → length word ≤ i → NumberRead word true number
+    pub digits-all : 0 < length word → length word ≤ i → NumberRead word (Some number)
     unfolding all_digits grown is_number
     digits-all some le =
-        let nothing = drop_of_length-le word le in record {
-          is = rw (not-empty word some) (sym (ap all_digits nothing) ∙ so_far.digits);
-          which = λ _. sym (min-eq_left so_far.capped) ∙ sym (ap (λ (rest : List ℕ). min (grown number rest) cap) nothing) ∙ so_far.grows;
-        }
+        let nothing = drop_of_length-le word le in (
+          rw (not-empty word some) (sym so_far.digits ∙ ap all_digits nothing),
+          sym (min-eq_left so_far.capped) ∙ sym (ap (λ (rest : List ℕ). min (grown number rest) cap) nothing) ∙ so_far.grows,
+        )

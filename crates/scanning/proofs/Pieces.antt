@@ -1,14 +1,14 @@
 -- The pieces of a word: what stands before a comma, and what a run without one tells of the bytes.
 use mathlib.Core.Path.{◌≡◌, refl, sym, ap, ◌∙◌}
-use mathlib.Core.Bool.{true, false}
+use mathlib.Core.Bool.{Bool, true, ◌||◌}
+use Rattle.std.specs.List.{list_any}
 use mathlib.Core.List.{List, [], ◌∷◌, ◌++◌}
-use Prim.Native.Nat.{ℕ, suc, ◌-◌, ◌≤◌, ◌<◌}
+use Prim.Native.Nat.{ℕ, suc, ◌-◌, ◌<◌}
 use native.Mathlib.Omega.{arith}
-use lib.Dec.{eqb, ltb}
+use lib.Dec.{eqb}
 use lib.ListN.{length, drop, get_or, length-drop}
 use lib.Seq.{take_all, drop-cons}
-use borrow.Author.Tests.{eqb-true, ltb-true, ltb-false, not-true, not-false}
-use Rattle.model.proofs.Laws.{by}
+use borrow.Author.Tests.{eqb-true, not-true, not-false}
 use Rattle.language.specs.Words.{joined, comma, has_comma, pieces}
 use Rattle.language.specs.Runs.{each}
 use Rattle.language.proofs.Words.{each_first, each-rest}
@@ -33,17 +33,11 @@ unfolding pieces
 pieces-one [] e = refl
 pieces-one (byte ∷ word) e = pieces-byte byte word word [] (each_first _ byte word e) (pieces-one word (each-rest _ byte word e))
 
--- a word with a comma has one
-comma-there : (front rest : List ℕ) → has_comma (front ++ comma ∷ rest) ≡ true
+-- a word has one where one of its bytes is one
+pub has-comma : (word : List ℕ) → list_any (λ byte. eqb byte comma) word ≡ has_comma word
 unfolding has_comma
-comma-there [] rest = refl
-comma-there (byte ∷ front) rest = by (eqb byte comma) (λ e. rw e) (λ e. rw e (comma-there front rest))
-
--- a word without one has none
-comma-absent : (word : List ℕ) → each of_piece word ≡ true → has_comma word ≡ false
-unfolding has_comma
-comma-absent [] e = refl
-comma-absent (byte ∷ word) e = rw (not-true (eqb byte comma) (each_first _ byte word e)) (comma-absent word (each-rest _ byte word e))
+has-comma [] = refl
+has-comma (byte ∷ word) = ap (λ (later : Bool). eqb byte comma || later) (has-comma word)
 
 -- ---- a run without a comma
 module _ (word : List ℕ) (from stop : ℕ) (r : Run of_piece word from stop) where
@@ -65,10 +59,3 @@ module _ (word : List ℕ) (from stop : ℕ) (r : Run of_piece word from stop) w
   -- it is the last piece
   pub piece-last : stop ≡ length word → pieces (drop from word) ≡ between from stop word ∷ []
   piece-last e = ap pieces (sym (piece-at-end e)) ∙ pieces-one _ r.passing.pass
-
-  -- there is a comma where the word goes on
-  pub comma-found : has_comma (drop from word) ≡ ltb stop (length word)
-  comma-found = by (ltb stop (length word))
-      (λ e. ap has_comma (sym (piece-before (ltb-true _ _ e))) ∙ comma-there (between from stop word) (drop (suc stop) word) ∙ sym e)
-      (λ e. let end : length word ≤ stop = ltb-false _ _ e in
-      ap has_comma (sym (piece-at-end (omega (arith, r.passing.within)))) ∙ comma-absent _ r.passing.pass ∙ sym e)

@@ -1,10 +1,13 @@
 -- Runs of bytes that pass a test: how a loop finds the end of one, and what a run of blanks, a word and a line tell of the bytes.
 use mathlib.Core.Path.{◌≡◌, refl, sym, ap, ◌∙◌}
-use mathlib.Core.Bool.{Bool, true, false}
+use mathlib.Core.Bool.{Bool, true, false, ◌&&◌}
 use mathlib.Core.List.{List, [], ◌∷◌, ◌++◌}
 use Prim.Native.Nat.{ℕ, suc, ◌+◌, ◌-◌, ◌≤◌, ◌<◌}
 use native.Mathlib.Omega.{arith}
 use lib.Dec.{eqb, ltb}
+use lib.Pointwise.{pointwise}
+use Rattle.std.specs.List.{ends_with}
+use Rattle.model.specs.Lists.{same_numbers}
 use lib.ListN.{length, take, drop, get_or, length-take, length-drop, take-append-drop, drop_of_length-le}
 use lib.Seq.{take_all, take-length, take-suc, drop-cons, drop-drop, get_or-drop}
 use borrow.Author.Tests.{eqb-true, eqb-false, eq-eqb, ne_eqb, ltb-true, ltb-false, not-false}
@@ -130,19 +133,36 @@ module _ (line : List ℕ) (some : 0 < length line) where
       let last : suc (length line - 1) ≡ length line = omega arith in
       sym (take-length line) ∙ ap (λ (k : ℕ). take k line) (sym last) ∙ take-suc line (length line - 1) 0 (omega arith)
 
-  -- a CR is left out
-  pub shortened_return : get_or line (length line - 1) 0 ≡ 13 → Shortened line (length line - 1)
-  shortened_return e = record { within = omega arith; front = sym (ap without_return (rw e at all_but_last) ∙ return_cut _) }
+  -- it ends with a CR where the last is one
+  last-byte : ends_with eqb line (13 ∷ []) ≡ eqb 13 (get_or line (length line - 1) 0)
+  last-byte =
+      let inside : length line - 1 < length line = omega arith in
+      let behind : drop (suc (length line - 1)) line ≡ [] = drop_of_length-le line {i = suc (length line - 1)} (omega arith) in
+      rw (drop-cons line (length line - 1) 0 inside, behind) (by (eqb 13 (get_or line (length line - 1) 0)) (λ e. rw e) (λ e. rw e))
 
-  -- another byte stays
-  pub shortened_other : (get_or line (length line - 1) 0 ≡ 13 → ⊥) → Shortened line (length line)
-  shortened_other d = record {
-    within = omega arith;
-    front = take-length line ∙ sym (ap without_return all_but_last ∙ return_kept (take (length line - 1) line) _ d ∙ sym all_but_last);
-  }
+-- a CR is left out
+pub shortened_return : (line : List ℕ) → 1 ≤ length line → ends_with eqb line (13 ∷ []) ≡ true → Shortened line (length line - 1)
+shortened_return line some e =
+    let last : get_or line (length line - 1) 0 ≡ 13 = sym (eqb-true _ _ (sym (last-byte line (omega arith)) ∙ e)) in
+    record { within = omega arith; front = sym (ap without_return (rw last at (all_but_last line (omega arith))) ∙ return_cut _) }
 
--- an empty line stays
-pub shortened_none : (line : List ℕ) → length line ≡ 0 → Shortened line 0
+-- another line stays
+pub shortened_other : (line : List ℕ) → ends_with eqb line (13 ∷ []) ≡ false → Shortened line (length line)
 unfolding without_return
-shortened_none [] e = record { within = omega arith; front = refl }
-shortened_none (byte ∷ line) e = absurd (omega arith)
+shortened_other [] e = record { within = omega arith; front = refl }
+shortened_other (byte ∷ front) e =
+    let line : List ℕ = byte ∷ front in
+    let some : 0 < length line = omega arith in
+    let other : get_or line (length line - 1) 0 ≡ 13 → ⊥ = λ z. eqb-false _ _ (sym (last-byte line some) ∙ e) (sym z) in record {
+      within = omega arith;
+      front = take-length line ∙ sym (ap without_return (all_but_last line some) ∙ return_kept (take (length line - 1) line) _ other ∙ sym (all_but_last line some));
+    }
+
+-- ---- words that are compared
+-- they are the same where each byte is
+pub same-pointwise : (word name : List ℕ) → pointwise eqb word name ≡ same_numbers word name
+unfolding same_numbers
+same-pointwise [] [] = refl
+same-pointwise [] (b ∷ name) = refl
+same-pointwise (a ∷ word) [] = refl
+same-pointwise (a ∷ word) (b ∷ name) = ap (λ (later : Bool). eqb a b && later) (same-pointwise word name)

@@ -1,5 +1,5 @@
 -- What the functions of this crate find in bytes, by their places.
-use Rattle.std.specs.Prelude.{◌≡◌, Bool, true, false, not, cond, List, [], ◌∷◌, ℕ, suc, ◌-◌, ◌≤◌, ◌<◌, min, eqb, length, take, drop, get_or}
+use Rattle.std.specs.Prelude.{◌≡◌, Bool, true, false, not, cond, List, [], ◌∷◌, ℕ, suc, Option, Some, None, ◌-◌, ◌≤◌, ◌<◌, min, eqb, length, take, drop, get_or}
 use Rattle.language.specs.Runs.{each, unbroken, last_line}
 use Rattle.language.specs.Words.{newline, comma, lines, without_return, is_blank, words, is_number, value}
 
@@ -49,9 +49,9 @@ abbrev pub cap : ℕ
 cap = 4294967296
 
 -- a word is a number or not, and where it is, which
-pub record NumberRead (word : List ℕ) (digits : Bool) (number : ℕ) : Type 0 where
-  pub is : digits ≡ is_number word
-  pub which : is_number word ≡ true → number ≡ min (value word) cap
+abbrev pub NumberRead : List ℕ → Option ℕ → Type 0
+NumberRead word None = is_number word ≡ false
+NumberRead word (Some number) = (is_number word ≡ true) × (number ≡ min (value word) cap)
 
 -- ---- lines
 -- the end of the line that starts at a place: what ends it stands there, or the bytes end before the line does

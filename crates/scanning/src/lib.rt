@@ -2,15 +2,10 @@
 
 #![tactic(auto)]
 
-ghost use Rattle.std.specs.Prelude.{◌≡◌, true, ◌*◌, ◌+◌, ◌-◌, ◌≤◌, min, length};
+ghost use Rattle.std.specs.Prelude.{◌≡◌, ℕ, Bool, true, ◌*◌, ◌+◌, ◌-◌, ◌≤◌, min, length};
 ghost use Rattle.model.specs.Lists.{same_numbers};
 ghost use Rattle.language.specs.Words.{is_blank, is_digit, has_comma};
-ghost use Rattle.scanning.specs.Scanned.{Run, Found, NumberRead, LineEnd, Shortened, of_word, of_piece, cap};
-
-// What stands between two words.
-const SPACE: u8 = b' ';
-
-const TAB: u8 = b'\t';
+ghost use Rattle.scanning.specs.Scanned.{Run, Found, NumberRead, LineEnd, Shortened, of_word, of_piece, of_line, cap};
 
 // What stands between two pieces of a word.
 const COMMA: u8 = b',';
@@ -19,11 +14,6 @@ const COMMA: u8 = b',';
 const NEWLINE: u8 = b'\n';
 
 const RETURN: u8 = b'\r';
-
-// The first digit and the last.
-const ZERO: u8 = b'0';
-
-const NINE: u8 = b'9';
 
 // What every number above the largest is read as: one more than the largest.
 pub const CAP: u64 = 4294967296;
@@ -35,21 +25,28 @@ pub struct Span {
     pub end: usize,
 }
 
-// Whether a word is a number, and which.
-#[derive(Clone, Copy)]
-pub struct Numeral {
-    pub digits: bool,
-    pub value: u64,
-}
-
 // Whether a byte is a blank.
+#[tactic(auto, unfolding(language::specs::Words::is_blank))]
 fn is_blank(byte: u8) -> bool
     ensures { result ≡ is_blank byte }
 {
-    if byte == SPACE {
-        return true;
+    matches!(byte, b' ' | b'\t')
+}
+
+// The place of the first byte from a place on that fails a test, or the end.
+fn run_end<F: Fn(u8) -> bool>(bytes: &[u8], from: usize, passes: F) -> usize
+    ghost test: { ℕ → Bool }
+    requires from_in_bounds { from ≤ length bytes.now }
+    requires answers { F.IsAlwaysCallable passes }
+    requires tests { (byte : ℕ) (answer : Bool) → F.post passes byte answer → answer ≡ test byte }
+    ensures { Run test bytes.now from result }
+{
+    for i in from..bytes.len() {
+        if !passes(bytes[i]) {
+            return i;
+        }
     }
-    byte == TAB
+    bytes.len()
 }
 
 // The place of the first byte from a place on that is no blank, or the end.
@@ -57,14 +54,7 @@ fn blanks_end(line: &[u8], from: usize) -> usize
     requires { from ≤ length line.now }
     ensures { Run is_blank line.now from result }
 {
-    let mut i = from;
-    while i < line.len() {
-        if !is_blank(line[i]) {
-            return i;
-        }
-        i += 1;
-    }
-    i
+    run_end(line, from, |byte| is_blank(byte))
 }
 
 // The place of the first blank from a place on, or the end.
@@ -72,14 +62,7 @@ pub fn word_end(line: &[u8], from: usize) -> usize
     requires { from ≤ length line.now }
     ensures { Run of_word line.now from result }
 {
-    let mut i = from;
-    while i < line.len() {
-        if is_blank(line[i]) {
-            return i;
-        }
-        i += 1;
-    }
-    i
+    run_end(line, from, |byte| !is_blank(byte))
 }
 
 // The first word from a place on; an empty one where there is none.
@@ -96,17 +79,7 @@ pub fn next_word(line: &[u8], from: usize) -> Span
 pub fn is_word(word: &[u8], name: &[u8]) -> bool
     ensures { result ≡ same_numbers word.now name.now }
 {
-    if word.len() != name.len() {
-        return false;
-    }
-    let mut i: usize = 0;
-    while i < word.len() {
-        if word[i] != name[i] {
-            return false;
-        }
-        i += 1;
-    }
-    true
+    word == name
 }
 
 // The place of the first comma from a place on, or the end.
@@ -114,31 +87,22 @@ pub fn piece_end(word: &[u8], from: usize) -> usize
     requires { from ≤ length word.now }
     ensures { Run of_piece word.now from result }
 {
-    let mut i = from;
-    while i < word.len() {
-        if word[i] == COMMA {
-            return i;
-        }
-        i += 1;
-    }
-    i
+    run_end(word, from, |byte| byte != COMMA)
 }
 
 // Whether a word has a comma.
 pub fn has_comma(word: &[u8]) -> bool
     ensures { result ≡ has_comma word.now }
 {
-    piece_end(word, 0) < word.len()
+    word.contains(&COMMA)
 }
 
 // Whether a byte is a digit.
+#[tactic(auto, unfolding(language::specs::Words::is_digit))]
 fn is_digit(byte: u8) -> bool
     ensures { result ≡ is_digit byte }
 {
-    if byte < ZERO {
-        return false;
-    }
-    byte <= NINE
+    matches!(byte, b'0'..=b'9')
 }
 
 // A number with a digit more, cut down to the cap.
@@ -147,40 +111,25 @@ fn with_digit(value: u64, byte: u8) -> u64
     requires byte_value { is_digit byte ≡ true }
     ensures { result ≡ min (10 * value + (byte - 48)) cap }
 {
-    let more = 10 * value + (byte - ZERO) as u64;
-    if more < CAP {
-        return more;
-    }
-    CAP
+    let more = 10 * value + u64::from(byte - b'0');
+    more.min(CAP)
 }
 
-// The number that a word is.
-pub fn number(word: &[u8]) -> Numeral
-    ensures { NumberRead word.now result.digits result.value }
+// The number that a word is, where it is one.
+pub fn number(word: &[u8]) -> Option<u64>
+    ensures { NumberRead word.now result }
 {
-    if word.len() == 0 {
-        return Numeral {
-            digits: false,
-            value: 0,
-        };
+    if word.is_empty() {
+        return None;
     }
-    let mut value: u64 = 0;
-    let mut i: usize = 0;
-    while i < word.len() {
-        let byte = word[i];
-        if !is_digit(byte) {
-            return Numeral {
-                digits: false,
-                value: 0,
-            };
+    let mut value = 0;
+    for byte in word {
+        if !is_digit(*byte) {
+            return None;
         }
-        value = with_digit(value, byte);
-        i += 1;
+        value = with_digit(value, *byte);
     }
-    Numeral {
-        digits: true,
-        value,
-    }
+    Some(value)
 }
 
 // The place of what ends the line that starts at a place, or the end of the bytes.
@@ -188,26 +137,16 @@ pub fn line_end(bytes: &[u8], from: usize) -> usize
     requires { from ≤ length bytes.now }
     ensures { LineEnd bytes.now from result }
 {
-    let mut i = from;
-    while i < bytes.len() {
-        if bytes[i] == NEWLINE {
-            return i;
-        }
-        i += 1;
-    }
-    i
+    run_end(bytes, from, |byte| byte != NEWLINE)
 }
 
 // The end of a line without the CR that may stand there.
 pub fn without_return(line: &[u8]) -> usize
     ensures { Shortened line.now result }
 {
-    let n = line.len();
-    if n == 0 {
-        return 0;
+    if line.ends_with(&[RETURN]) {
+        line.len() - 1
+    } else {
+        line.len()
     }
-    if line[n - 1] == RETURN {
-        return n - 1;
-    }
-    n
 }

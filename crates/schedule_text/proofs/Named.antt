@@ -1,7 +1,7 @@
 -- Laws of the threads that a line names: a tick names thread 0 as often as it is told, every other line those that are its numbers.
 use mathlib.Core.Logic.{◌≢◌}
-use mathlib.Core.Path.{◌≡◌, refl, sym, ◌∙◌, ap}
-use mathlib.Core.List.{List, [], ◌∷◌}
+use mathlib.Core.Path.{◌≡◌, sym, ◌∙◌, ap}
+use mathlib.Core.List.{List}
 use Prim.Native.Nat.{ℕ, ◌≤◌, ◌<◌}
 use native.Mathlib.Omega.{arith}
 use lib.Dec.{eqb}
@@ -29,24 +29,8 @@ module _ (row : ℕ) (numbers : List ℕ) where
   tick-threads tick = cond-true _ _ _ (eq-eqb row tick_kind tick)
 
   -- how often it is told
-  tick-many : row ≡ tick_kind → length (threads_of row numbers) ≡ get_or numbers 0 1
+  pub tick-many : row ≡ tick_kind → length (threads_of row numbers) ≡ get_or numbers 0 1
   tick-many tick = ap length (tick-threads tick) ∙ length-replicate (get_or numbers 0 1) 0
-
-  -- once without a number
-  pub tick-once : row ≡ tick_kind → length numbers ≡ 0 → 1 ≡ length (threads_of row numbers)
-  tick-once tick none = sym (tick-many tick ∙ first numbers none)
-    where
-      first : (l : List ℕ) → length l ≡ 0 → get_or l 0 1 ≡ 1
-      first [] e = refl
-      first (n ∷ l) e = absurd (omega arith)
-
-  -- as often as its number says
-  pub tick-counted : row ≡ tick_kind → length numbers ≢ 0 → get_or numbers 0 0 ≡ length (threads_of row numbers)
-  tick-counted tick some = sym (tick-many tick ∙ first numbers some)
-    where
-      first : (l : List ℕ) → length l ≢ 0 → get_or l 0 1 ≡ get_or l 0 0
-      first [] n = absurd (n refl)
-      first (n ∷ l) e = refl
 
   -- thread 0
   pub tick-thread : row ≡ tick_kind → (i : ℕ) → i < length (threads_of row numbers) → get_or (threads_of row numbers) i 0 ≡ 0

@@ -15,10 +15,7 @@ pub fn how_many(row: u8, numbers: &[u32]) -> usize
     if row != TICK_ROW {
         return numbers.len();
     }
-    if numbers.len() == 0 {
-        return 1;
-    }
-    numbers[0] as usize
+    numbers.first().copied().unwrap_or(1) as usize
 }
 
 // The thread of record i of them.
@@ -34,11 +31,11 @@ fn thread_at(row: u8, numbers: &[u32], i: usize) -> u8
 }
 
 // The kind of the records of a line: the first rows are the kinds, but a begin that names a set has one of its own.
+#[tactic(auto, unfolding(language::specs::RecordText::kind_asked))]
 pub fn kind_asked(row: u8, op: Operation) -> u8
     ensures { result ≡ kind_asked row op }
 {
-    let receive = op.receive;
-    if (row == BEGIN_ROW) & threads::names_set(receive) {
+    if row == BEGIN_ROW && threads::names_set(op.receive) {
         return SET;
     }
     row
@@ -50,11 +47,9 @@ pub fn record_at(row: u8, op: Operation, numbers: &[u32], i: usize) -> Record
     requires bytes { Bytes (threads_of row numbers.now) }
     ensures { result ≡ record_for row op (get_or (threads_of row numbers.now) i 0) }
 {
-    let thread = thread_at(row, numbers, i);
-    let kind = kind_asked(row, op);
     Record {
-        kind: kind,
-        thread: thread,
-        op: op,
+        kind: kind_asked(row, op),
+        thread: thread_at(row, numbers, i),
+        op,
     }
 }

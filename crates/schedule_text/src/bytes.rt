@@ -6,40 +6,31 @@ ghost use Rattle.roundtrip.specs.Fits.{Bytes};
 ghost use Rattle.language.specs.Commands.{command_of};
 ghost use Rattle.language.specs.RecordText.{threads_of, records_asked, lawful_row, records_of};
 ghost use Rattle.commands.specs.Standing.{line_room};
-ghost use Rattle.schedule_text.specs.Steps.{step_of};
+ghost use Rattle.schedule_text.specs.Steps.{next_after};
 
 use crate::asked::{how_many, kind_asked, record_at};
-use commands::{NOTHING, TICK_ROW, command, no_numbers};
+use commands::{Reason, TICK_ROW, command, no_numbers};
 use line_input::Lines;
 use model::{Answer, Operation, Record};
 use reading::{LONGEST, record_length};
-use replies::{NOT_RECORD, TABLE_FIRST, put_error};
+use replies::put_error;
 use scanning::{next_word, without_return};
 use std::io;
 use std::io::{Read, Write};
 use writing::write;
 
-// What a line came to: whether it is one of a schedule, and whether the next record is the first.
-#[derive(Clone, Copy)]
-struct Step {
-    good: bool,
-    first: bool,
-}
-
 // Says why line n is none of a schedule, and at which word.
-fn say_wrong<E: Write>(errors: &mut E, n: u64, reason: u8, word: &[u8]) -> io::Result<()> {
+fn say_wrong<E: Write>(errors: &mut E, n: u64, reason: Reason, word: &[u8]) -> io::Result<()> {
     let mut text = [0u8; 65536];
     let end = put_error(&mut text, 0, n, reason, word);
     errors.write_all(&text[..end])
 }
 
 // Says why line n is none of a schedule, with its first word.
-fn say_first<E: Write>(errors: &mut E, n: u64, reason: u8, line: &[u8]) -> io::Result<()> {
+fn say_first<E: Write>(errors: &mut E, n: u64, reason: Reason, line: &[u8]) -> io::Result<()> {
     let stop = without_return(line);
-    let word = next_word(&line[0..stop], 0);
-    let start = word.start;
-    let end = word.end;
-    say_wrong(errors, n, reason, &line[start..end])
+    let word = next_word(&line[..stop], 0);
+    say_wrong(errors, n, reason, &line[word.start..word.end])
 }
 
 // Writes out what is gathered where a record more might not fit; answers how many bytes are still gathered.
@@ -51,7 +42,7 @@ fn with_room<W: Write>(output: &mut W, filled: usize, out: &[u8]) -> io::Result<
     if LONGEST <= out.len() - filled {
         return Ok(filled);
     }
-    output.write_all(&out[0..filled])?;
+    output.write_all(&out[..filled])?;
     Ok(0)
 }
 
@@ -60,11 +51,10 @@ fn put_lawful(first: bool, item: Record, out: &mut [u8]) -> bool
     requires { longest_record ≤ length out.old }
     ensures { result ≡ lawful_record first item }
 {
-    let answer = write(first, item, out);
-    if let Answer::Refused(_) = answer {
-        return false;
+    match write(first, item, out) {
+        Answer::Refused(_) => false,
+        _ => true,
     }
-    true
 }
 
 // Writes the records of a line out, gathered in a buffer; answers whether they are lawful.
@@ -81,24 +71,21 @@ fn write_records<W: Write>(
     ensures { IfOk result (λ lawful. lawful ≡ lawful_row first (records_asked row numbers.now op)) }
 {
     let count = how_many(row, numbers);
-    let kind = kind_asked(row, op);
-    let size = record_length(kind);
-    let mut filled: usize = 0;
-    let mut i: usize = 0;
-    while i < count {
+    let size = record_length(kind_asked(row, op));
+    let mut filled = 0;
+    for i in 0..count {
         filled = with_room(output, filled, out)?;
         let item = record_at(row, op, numbers, i);
         if !put_lawful(first & (i == 0), item, &mut out[filled..]) {
             return Ok(false);
         }
         filled += size;
-        i += 1;
     }
-    output.write_all(&out[0..filled])?;
+    output.write_all(&out[..filled])?;
     Ok(true)
 }
 
-// Writes the records of line n out, told whether they are the first; or says why it has none.
+// Writes the records of line n out, told whether they are the first; or says why it has none. Answers whether the next record is the first, or nothing where the line is none of a schedule.
 fn write_line<W: Write, E: Write>(
     output: &mut W,
     errors: &mut E,
@@ -107,39 +94,31 @@ fn write_line<W: Write, E: Write>(
     first: bool,
     numbers: &mut [u32],
     out: &mut [u8],
-) -> io::Result<Step>
+) -> io::Result<Option<bool>>
     requires line_room_in_bounds { line_room ≤ length numbers.old }
     requires longest_record_in_bounds { longest_record ≤ length out.old }
-    ensures { IfOk result (λ step. step ≡ step_of first (records_of first (command_of line.now))) }
+    ensures { IfOk result (λ next. next ≡ next_after first (records_of first (command_of line.now))) }
 {
-    let parsed = command(line, numbers);
-    let reason = parsed.reason;
-    if reason != 0 {
-        let start = parsed.start;
-        let end = parsed.end;
-        say_wrong(errors, n, reason, &line[start..end])?;
-        return Ok(Step { good: false, first });
+    let asked = match command(line, numbers) {
+        Ok(Some(asked)) => asked,
+        Ok(None) => return Ok(Some(first)),
+        Err(misread) => {
+            let word = &line[misread.word.start..misread.word.end];
+            say_wrong(errors, n, misread.reason, word)?;
+            return Ok(None);
+        }
+    };
+    if TICK_ROW < asked.row {
+        say_first(errors, n, Reason::NotRecord, line)?;
+        return Ok(None);
     }
-    let row = parsed.row;
-    if row == NOTHING {
-        return Ok(Step { good: true, first });
+    let named = &numbers[..asked.count];
+    if write_records(output, first, asked.row, asked.op, named, out)? {
+        let many = how_many(asked.row, named);
+        return Ok(Some(first & (many == 0)));
     }
-    if TICK_ROW < row {
-        say_first(errors, n, NOT_RECORD, line)?;
-        return Ok(Step { good: false, first });
-    }
-    let count = parsed.count;
-    let op = parsed.op;
-    let named = &numbers[0..count];
-    let many = how_many(row, named);
-    if write_records(output, first, row, op, named, out)? {
-        return Ok(Step {
-            good: true,
-            first: first & (many == 0),
-        });
-    }
-    say_first(errors, n, TABLE_FIRST, line)?;
-    Ok(Step { good: false, first })
+    say_first(errors, n, Reason::TableFirst, line)?;
+    Ok(None)
 }
 
 // Writes the records of the lines that an input delivers out, through a buffer for lines, one for numbers and one for bytes.
@@ -161,11 +140,11 @@ fn write_lines<R: Read, W: Write, E: Write>(
             return Ok(());
         };
         let text = lines.text(line);
-        let step = write_line(output, errors, before + 1, text, first, numbers, out)?;
-        if !step.good {
+        let next = write_line(output, errors, before + 1, text, first, numbers, out)?;
+        let Some(next_first) = next else {
             return Ok(());
-        }
-        first = step.first;
+        };
+        first = next_first;
     }
     Ok(())
 }

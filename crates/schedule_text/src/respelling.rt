@@ -12,20 +12,7 @@ use writing::write;
 
 // Two runs of bytes have the same first n.
 fn same_front(a: &[u8], b: &[u8], n: usize) -> bool {
-    if a.len() < n {
-        return false;
-    }
-    if b.len() < n {
-        return false;
-    }
-    let mut i: usize = 0;
-    while i < n {
-        if a[i] != b[i] {
-            return false;
-        }
-        i += 1;
-    }
-    true
+    n <= a.len() && n <= b.len() && a[..n] == b[..n]
 }
 
 // A line of a schedule stands for one record, which is written as the first of these bytes.
@@ -50,15 +37,11 @@ pub fn respelled(first: bool, item: Record, bytes: &[u8]) -> bool {
     let mut line = Text::new(&mut space);
     put_record(&mut line, item);
     let mut numbers = no_numbers();
-    let parsed = command(line.front(), &mut numbers);
-    if parsed.reason != 0 {
+    let Ok(Some(asked)) = command(line.front(), &mut numbers) else {
+        return false;
+    };
+    if TICK_ROW < asked.row {
         return false;
     }
-    let row = parsed.row;
-    if TICK_ROW < row {
-        return false;
-    }
-    let count = parsed.count;
-    let op = parsed.op;
-    writes_one(first, row, op, &numbers[0..count], bytes)
+    writes_one(first, asked.row, asked.op, &numbers[..asked.count], bytes)
 }

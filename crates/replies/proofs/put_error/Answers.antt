@@ -9,4 +9,4 @@ pub returns : goal.returns
 unfolding error_text ascii up_to
 returns c =
     written_front c.byte.new.self c.len.ensures c.at-text.ensures (search rules)
-    (rw (c.byte.ensures, c.put_named.ensures, c.put_reason.ensures, c.bytes-2.ensures, c.number.ensures, c.bytes.ensures) (simp written_joined))
+    (rw (c.byte.ensures, c.put_named.ensures, c.bytes-3.ensures, c.text_of.ensures, c.bytes-2.ensures, c.number.ensures, c.bytes.ensures) (simp written_joined))

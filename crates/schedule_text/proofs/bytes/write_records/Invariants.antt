@@ -1,4 +1,4 @@
-use Rattle.std.proofs.Common.{◌≡◌, ◌-◌, ◌≤◌, length}
+use Rattle.std.proofs.Common.{◌≡◌, ◌≤◌, length}
 use Rattle.model.specs.RecordBytes.{longest_record}
 use Rattle.language.specs.RecordText.{threads_of, records_asked, lawful_row}
 use Rattle.schedule_text.proofs.Lawful.{lawful_from}
@@ -13,7 +13,3 @@ invariant-loop-i g l = record {
   short : l.size ≤ longest_record;
   rest : lawful_row l.first (records_asked l.row l.numbers l.op) ≡ lawful_from l.first l.row l.op (threads_of l.row l.numbers) l.i;
 }
-
--- how many records are left
-abbrev pub decreases-loop-i : goal.decreases-loop-i
-decreases-loop-i g l = l.count - l.i

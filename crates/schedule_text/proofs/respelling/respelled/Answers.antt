@@ -1,6 +1,6 @@
-use Rattle.std.proofs.Common.{arith}
 use Rattle.schedule_text.proofs.Lines.{asked-bytes}
 use Rattle.schedule_text.proofs.respelling.respelled.Goals as goal
 
+-- the threads of a line are bytes
 pub writes_one-requires : goal.writes_one-requires
-writes_one-requires c = asked-bytes c.command-parsed.ensures.parses c.if-parsed-ne0.false (λ e. omega (arith, e, c.if-row-gt-TICK_ROW.false)) c.if-row-gt-TICK_ROW.false
+writes_one-requires c = asked-bytes _ (rw c.in-Ok-Some.field-0-is at c.in-Ok-Some.ensures.parses) c.if-asked-gt-TICK_ROW.false

@@ -1,0 +1,17 @@
+use Rattle.std.proofs.lemmas.Result.{err_from_is_err_and}
+use Rattle.model.specs.Lists.{up_to}
+use Rattle.model.specs.Bondtrace.{ascii}
+use Rattle.commands.proofs.Spelling.{spells_as, open-refused, open-read}
+use Rattle.commands.proofs.receives.read_open.Goals as goal
+
+-- the time code was not read
+pub returns-in_err-last : goal.returns-in_err-last
+unfolding ascii up_to
+returns-in_err-last c =
+    let p = err_from_is_err_and c.from_residual.result c.from_residual.ensures.1 in
+    rw (p.1, p.2) (open-refused _ _ _ c.in_err-last.ensures)
+
+-- it was
+pub returns : goal.returns
+unfolding ascii up_to
+returns c = spells_as _ _ (open-read _ _ _ _ _ _ c.in_ok-last.ensures) (rw c.low_byte.ensures at c.close.ensures)
