@@ -8,7 +8,6 @@ ghost use Rattle.columns.specs.Ranks.{senders_of, targets_of, earlier, place_of_
 use model::Pair;
 
 // How many entries before a place are of a sender and a target.
-// Kept: a loop and no filter and count, with which comparing logs of one sender and target was slower than in C (bench/compare.sh).
 fn count_earlier(pairs: &[Pair], pair: Pair, end: usize) -> usize
     requires { end ≤ length pairs.now }
     ensures { result ≡ earlier (senders_of pairs.now) (targets_of pairs.now) pair.sender pair.target end }
