@@ -12,7 +12,13 @@ fn count_earlier(pairs: &[Pair], pair: Pair, end: usize) -> usize
     requires { end ≤ length pairs.now }
     ensures { result ≡ earlier (senders_of pairs.now) (targets_of pairs.now) pair.sender pair.target end }
 {
-    pairs[..end].iter().filter(|other| **other == pair).count()
+    let mut count = 0;
+    for before in &pairs[..end] {
+        if *before == pair {
+            count += 1;
+        }
+    }
+    count
 }
 
 // The place of the entry of a sender, a target and a rank, if there is one.

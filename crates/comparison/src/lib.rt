@@ -33,13 +33,22 @@ fn is_good(log: &Log) -> bool
 }
 
 // The sender and the target of each entry.
-fn pairs_of(entries: [LogEntry; 512]) -> [Pair; 512]
-    ensures { result ≡ map pair_of entries }
+// Kept: a loop and no `map` of the array, which took up to twice the time for short logs (bench/compare.sh).
+fn pairs_of(entries: &[LogEntry; 512]) -> [Pair; 512]
+    ensures { result ≡ map pair_of entries.now }
 {
-    entries.map(|entry| Pair {
-        sender: entry.sender,
-        target: entry.target,
-    })
+    let none = Pair {
+        sender: 0,
+        target: 0,
+    };
+    let mut pairs = [none; 512];
+    for (i, entry) in entries.iter().enumerate() {
+        pairs[i] = Pair {
+            sender: entry.sender,
+            target: entry.target,
+        };
+    }
+    pairs
 }
 
 // Two entries have the same count and words.
@@ -106,8 +115,8 @@ fn compare_good(sends: &Log, receives: &Log) -> Compared
     requires good_2 { Good receives.now }
     ensures { said_comparison result ≡ compare (entries_of sends.now) (entries_of receives.now) }
 {
-    let sent = pairs_of(sends.entries);
-    let received = pairs_of(receives.entries);
+    let sent = pairs_of(&sends.entries);
+    let received = pairs_of(&receives.entries);
     let ours = Side {
         log: sends,
         pairs: &sent[..sends.len as usize],

@@ -1,12 +1,33 @@
-use Rattle.std.proofs.Common.{◌∙◌, sym, take, rules}
-use Rattle.std.proofs.lemmas.Iterator.{YieldsList-from_slice}
-use Rattle.std.proofs.lemmas.Iterator.Consumers.{count_from_yields_List, YieldsList-from_filter, YieldsList-at}
-use borrow.Author.Tests.{tests}
-use Rattle.columns.proofs.Places.{is_pair, counted}
+use Rattle.std.proofs.Common.{◌≡◌, ◌<◌, ◌∙◌, sym, ap, Bool, length, get_or, take, arith, rules}
+use Rattle.std.proofs.lemmas.List.{length-take, get_or-take}
+use Rattle.model.specs.declared.Pair.{Pair}
+use Rattle.columns.specs.Ranks.{senders_of, targets_of, is_of, earlier}
+use Rattle.columns.proofs.Places.{no_pair, is_pair, none-earlier, one_earlier, same-earlier, of_pair}
+use Rattle.columns.proofs.count_earlier.Goals.{then-eq, else-eq}
 use Rattle.columns.proofs.count_earlier.Goals as goal
+
+pub loop-before-init : goal.loop-before-init
+loop-before-init c = (omega arith, none-earlier _ _ _ _)
+
+pub loop-before-preserved : goal.loop-before-preserved
+loop-before-preserved c =
+    let pairs = c.args.pairs.now in
+    let pair = c.args.pair in
+    let k = c.loop-before.before-index in
+    let low : k < length pairs = omega (arith, length-take c.args.end pairs) in
+    let inside : k < c.args.end = omega (arith, length-take c.args.end pairs) in
+    let own : is_of (senders_of pairs) (targets_of pairs) pair.sender pair.target k ≡ c.eq.result =
+    of_pair pairs pair k low ∙ ap (λ (p : Pair). is_pair pair p) (sym (get_or-take c.args.end pairs k no_pair inside)) ∙ sym c.eq.ensures in
+    elim c.if-eq.branch [
+      | then-eq w ↦
+          let more = one_earlier (senders_of pairs) (targets_of pairs) pair.sender pair.target k (own ∙ w.if-eq.true) in
+          (omega (arith, w.count-is, c.loop-before.invariant.0), omega (arith, w.count-is, c.loop-before.invariant.1, more))
+      | else-eq w ↦
+          (omega (arith, w.count-is, c.loop-before.invariant.0), w.count-is ∙ c.loop-before.invariant.1 ∙ sym (same-earlier _ _ _ _ k (own ∙ w.if-eq.false)))
+    ]
 
 pub returns : goal.returns
 returns c =
-    count_from_yields_List c.filter.result c.count.result c.count.ensures.ran
-    (YieldsList-from_filter _ (is_pair c.args.pair) (YieldsList-at c.filter.ensures.source (YieldsList-from_slice (take c.args.end c.args.pairs.now) (cc))) c.filter.ensures.closure (λ x b q k. search (rules, tests)))
-    ∙ sym (counted c.args.pairs.now c.args.pair c.args.end c.requires)
+    let pairs = c.args.pairs.now in
+    let all : c.loop-before.before-index ≡ c.args.end = omega (arith, length-take c.args.end pairs) in
+    rw all at c.loop-before.invariant.1
