@@ -189,7 +189,8 @@ pub fn step_threads(x: u8, o: Option<u8>, own: Thread, other: Thread, words: &mu
     ensures acted { Acted (decide_in (phase_of own.phase) x own other) x own other result }
     ensures words { words.new ≡ words_after own words.old }
 {
-    match own.phase {
+    let phase = own.phase;
+    match phase {
         threads::IDLE => in_idle(x, own, other),
         threads::LOCK => in_lock(x, own, other),
         threads::CHECK => in_check(x, own, other),

@@ -1,5 +1,5 @@
 -- Laws of the first place at which a test holds, of reading a list's first places, and of a list with one place gone.
-use Rattle.std.proofs.Common.{◌≡◌, refl, ap, sym, ◌∙◌, Bool, false, not, List, [], ◌∷◌, ◌++◌, ℕ, zero, suc, ◌+◌, ◌-◌, ◌≤◌, ◌<◌, length, get_or, take, drop, eqb, ltb, unwrap_or, add-one, arith}
+use Rattle.std.proofs.Common.{◌≡◌, refl, ap, sym, ◌∙◌, Bool, true, false, not, cond, List, [], ◌∷◌, ◌++◌, ℕ, zero, suc, ◌+◌, ◌-◌, ◌≤◌, ◌<◌, length, get_or, take, drop, drop-cons, eqb, ltb, unwrap_or, add-one, arith}
 use Rattle.std.specs.List.{position, position_or_len, copy_within}
 use Rattle.std.proofs.lemmas.List.{drop-take}
 use Rattle.std.proofs.lemmas.List.Recursion.{is_position_or_len}
@@ -11,6 +11,41 @@ use Rattle.model.specs.Lists.{bit, occurs, without, place_where}
 use Rattle.model.proofs.Laws.{by}
 use Rattle.queues.specs.Options.{as_option}
 use Rattle.queues.specs.Places.{place_of, moved_up}
+
+-- ---- a search that goes up a list
+module _ (f : ℕ → Bool) where
+  -- a search stops in the list or at its end
+  place_inside : (q : List ℕ) → place_where f q ≤ length q
+  unfolding place_where
+  place_inside [] = omega arith
+  place_inside (a ∷ q) = by (f a) (λ e. rw e (omega arith)) (λ e. rw e (omega (arith, place_inside q)))
+
+  -- a search that has passed i places goes on from there
+  place-from : (q : List ℕ) (i : ℕ) → i ≤ place_where f q → place_where f q ≡ i + place_where f (drop i q)
+  unfolding place_where
+  place-from q zero h = omega arith
+  place-from [] (suc i) h = absurd (omega arith)
+  place-from (a ∷ q) (suc i) h = by (f a)
+      (λ e. let none_passed : suc i ≤ 0 = rw e at h in absurd (omega arith))
+      (λ e. let passed : suc i ≤ suc (place_where f q) = rw e at h in rw e (omega (arith, place-from q i (omega arith))))
+
+  module _ (q : List ℕ) (i : ℕ) (reached : i ≤ place_where f q) where
+    -- whether it stops at place i, f at what stands there decides
+    place_at : i < length q → place_where f q ≡ i + cond (f (get_or q i 0)) 0 (suc (place_where f (drop (suc i) q)))
+    unfolding place_where
+    place_at h = place-from q i reached ∙ ap (λ (q : List ℕ). i + place_where f q) (drop-cons q i 0 h)
+
+    -- it stops at place i, where f holds there
+    pub stops-here : i < length q → f (get_or q i 0) ≡ true → i ≡ place_where f q
+    stops-here h e = let k = rw e at (place_at h) in omega arith
+
+    -- it passes place i, where f fails there
+    pub goes_on : i < length q → f (get_or q i 0) ≡ false → i + 1 ≤ place_where f q
+    goes_on h e = let k = rw e at (place_at h) in omega arith
+
+    -- it stops at the end, where no place is left
+    pub stops-at-end : length q ≤ i → i ≡ place_where f q
+    stops-at-end h = omega (arith, place_inside q)
 
 -- ---- the first place at which a test holds
 -- it is what `position` finds, or the list's length

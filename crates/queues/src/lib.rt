@@ -24,10 +24,18 @@ fn search(h: Thread) -> usize
     ensures { result ≡ search_place h }
 {
     let senders = waiting(&h.queue);
-    senders
-        .iter()
-        .position(|s| threads::accepts_from(h.op.receive, *s))
-        .unwrap_or(senders.len())
+    let mut i: usize = 0;
+    // Kept: document 01 names the form of the search, a loop over the queue that breaks with the place of the acceptable sender.
+    let place = loop {
+        if senders.len() <= i {
+            break i;
+        }
+        if threads::accepts_from(h.op.receive, senders[i]) {
+            break i;
+        }
+        i += 1;
+    };
+    place
 }
 
 // What a search found: the sender that it settled on, if there is one, and how many queue places it read.

@@ -1,18 +1,20 @@
-use Rattle.std.proofs.Common.{◌≡◌, take, rules}
-use Rattle.std.proofs.lemmas.Iterator.{YieldsList-from_slice}
-use Rattle.std.proofs.lemmas.Iterator.Search.{position_from_yields_List}
-use Rattle.std.specs.List.{position}
-use borrow.Author.Tests.{tests}
-use Rattle.model.specs.Operations.{accepts}
+use Rattle.std.proofs.Common.{sym, ◌∙◌, arith}
 use Rattle.model.specs.Queues.{senders, search_place}
-use Rattle.queues.proofs.Laws.{place_where_found}
+use Rattle.queues.proofs.Laws.{stops-here, goes_on, stops-at-end}
 use Rattle.queues.proofs.search.Goals as goal
 
-pub returns : goal.returns
+pub loop-i-preserved : goal.loop-i-preserved
+loop-i-preserved c = record {
+  inside = omega arith;
+  passed = goes_on _ _ _ c.loop-i.invariant.passed c.if-senders-i.false (sym c.accepts_from.ensures ∙ c.if-accepts_from.false);
+}
+
+-- no place is left
+pub returns-then-senders-i : goal.returns-then-senders-i
 unfolding senders search_place
-returns c =
-    let receive = c.args.h.op.receive in
-    let q = take c.args.h.queue.len c.args.h.queue.items in
-    let found : c.position.result ≡ position (accepts receive) q =
-    position_from_yields_List (accepts receive) _ _ c.position.result c.position.ensures.ran (YieldsList-from_slice q (cc)) (λ x b f k. search (rules, tests)) in
-    cc (place_where_found (accepts receive) q)
+returns-then-senders-i c = cc (stops-at-end _ _ _ c.loop-i.invariant.passed c.if-senders-i.true, c.waiting-senders.ensures)
+
+-- an acceptable sender stands there
+pub returns-then-accepts_from : goal.returns-then-accepts_from
+unfolding senders search_place
+returns-then-accepts_from c = cc (stops-here _ _ _ c.loop-i.invariant.passed c.if-senders-i.false (sym c.accepts_from.ensures ∙ c.if-accepts_from.true), c.waiting-senders.ensures)
