@@ -134,7 +134,7 @@ impl<'a> Records<'a> {
     }
 }
 
-// Prints the line of A schedule that is refused: the number, and the byte where the refused record starts.
+// Prints the line of a schedule that is refused: the number, and the byte where the refused record starts.
 pub fn print_bad<W: Write>(output: &mut W, number: u8, byte: u64) -> io::Result<()> {
     let mut line = [0u8; 4096];
     let end = printing::bad_line(number, byte, &mut line);
