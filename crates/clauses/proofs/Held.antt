@@ -1,37 +1,36 @@
 -- The lock that a thread holds, by the number of its phase.
-use mathlib.Core.Path.{◌≡◌, refl}
-use mathlib.Core.Bool.{cond, ◌||◌}
-use Prim.Native.Nat.{ℕ, zero, suc, ◌<◌}
-use native.Mathlib.Omega.{arith}
-use lib.ListN.{get_or-eq_default}
-use lib.Dec.{eqb, ltb}
-use borrow.Author.Tests.{ltb-true, ltb-false, ne_eqb}
+use Rattle.std.proofs.Common.{◌≡◌, ◌≤◌, sym, ap, arith}
+use Rattle.model.specs.declared.Thread.{Thread}
 use Rattle.model.specs.Codes.{nobody}
-use Rattle.model.specs.Phases.{phases, check, copy, release, wake, unlock, unknown, phase_of, phase_number}
-use Rattle.model.specs.Locks.{lock_held_in}
-use Rattle.model.proofs.Laws.{by, same?, ◌and◌}
+use Rattle.model.specs.Phases.{Phase, idle, lock, check, copy, release, sleep, look, wake, unlock, unknown, phase_of}
+use Rattle.model.specs.Locks.{lock_held, lock_held_in}
+use Rattle.model.proofs.Laws.{same?}
+use Rattle.laws.proofs.Decisions.{in_number, past-last}
 
--- P of each number below n
-abbrev EachBelow : ℕ → (ℕ → Type 0) → Type 0
-EachBelow zero P = Unit {0}
-EachBelow (suc n) P = P n × EachBelow n P
+module _ (h : Thread) where
+  -- by the phase that the thread is known to be in
+  held-in : (p : Phase) → phase_of h.phase ≡ p → lock_held_in p h.op.send.target h.waking ≡ lock_held h
+  unfolding lock_held
+  held-in p e = sym (ap (λ (q : Phase). lock_held_in q h.op.send.target h.waking) e)
 
--- what holds of each holds of one
-each_below : (n : ℕ) (P : ℕ → Type 0) → EachBelow n P → (k : ℕ) → k < n → P k
-each_below zero P h k l = absurd (omega arith)
-each_below (suc n) P h k l = same? k n (λ e. rw e h.0) (λ d. each_below n P h.1 k (omega arith))
+  -- from check to release it holds the target's
+  pub held-target : 2 ≤ h.phase → h.phase ≤ 4 → h.op.send.target ≡ lock_held h
+  held-target low high =
+      same? h.phase 2 (λ e. held-in check (in_number check h.phase e)) (λ a.
+      same? h.phase 3 (λ e. held-in copy (in_number copy h.phase e)) (λ b.
+      held-in release (in_number release h.phase (omega arith))))
 
--- check, copy and release hold the target's lock, wake and unlock that of the sender being woken, and no other phase holds one
-abbrev pub held_by : ℕ → ℕ → ℕ → ℕ
-held_by k target waking =
-    cond (eqb k (phase_number check) || eqb k (phase_number copy) || eqb k (phase_number release)) target
-    (cond (eqb k (phase_number wake) || eqb k (phase_number unlock)) waking nobody)
+  -- in wake and unlock that of the sender being woken
+  pub held-woken : 7 ≤ h.phase → h.phase ≤ 8 → h.waking ≡ lock_held h
+  held-woken low high =
+      same? h.phase 7 (λ e. held-in wake (in_number wake h.phase e)) (λ a.
+      held-in unlock (in_number unlock h.phase (omega arith)))
 
--- the model's definition says the same
-pub lock-held_by : (k target waking : ℕ) → lock_held_in (phase_of k) target waking ≡ held_by k target waking
-unfolding phase_of
-lock-held_by k target waking = by (ltb k 9)
-    (λ e. each_below 9 (λ k. lock_held_in (phase_of k) target waking ≡ held_by k target waking)
-    (refl and refl and refl and refl and refl and refl and refl and refl and refl and tt) k (ltb-true k 9 e))
-    (λ e. let l = ltb-false k 9 e in
-    rw (get_or-eq_default phases unknown l, ne_eqb k 2 (omega arith), ne_eqb k 3 (omega arith), ne_eqb k 4 (omega arith), ne_eqb k 7 (omega arith), ne_eqb k 8 (omega arith)) refl)
+  -- and no other
+  pub held-none : (2 ≤ h.phase → 5 ≤ h.phase) → (7 ≤ h.phase → 9 ≤ h.phase) → nobody ≡ lock_held h
+  held-none low high =
+      same? h.phase 0 (λ e. held-in idle (in_number idle h.phase e)) (λ i.
+      same? h.phase 1 (λ e. held-in lock (in_number lock h.phase e)) (λ j.
+      same? h.phase 5 (λ e. held-in sleep (in_number sleep h.phase e)) (λ k.
+      same? h.phase 6 (λ e. held-in look (in_number look h.phase e)) (λ m.
+      held-in unknown (past-last h.phase i j (λ e. omega arith) (λ e. omega arith) (λ e. omega arith) k m (λ e. omega arith) (λ e. omega arith))))))

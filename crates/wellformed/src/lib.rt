@@ -4,8 +4,11 @@
 
 ghost use Rattle.std.specs.Prelude.{◌≡◌, ◌≤◌, ◌<◌, length};
 ghost use Rattle.model.specs.Lists.{all_below};
+ghost use Rattle.model.specs.Locks.{lock_held};
 ghost use Rattle.model.specs.Queues.{senders};
 ghost use Rattle.model.specs.WellFormed.{well_formed};
+ghost use Rattle.formed.specs.Groups.{copies_to};
+ghost use Rattle.clauses.specs.Alone.{target_of};
 ghost use Rattle.wellformed.specs.Links.{number_at, points_back, chain_ends, link_fits};
 ghost use Rattle.wellformed.specs.Waiting.{EnteredOrNot};
 
@@ -111,6 +114,25 @@ fn links_fit(
     true
 }
 
+// The thread to which a thread sends, copies, or whose lock it holds, as the number that is gathered: nobody's where there is none.
+fn target_of(h: Thread) -> u8
+    ensures { result ≡ target_of h }
+{
+    clauses::target_of(h).unwrap_or(NOBODY)
+}
+
+fn copies_to(h: Thread) -> u8
+    ensures { result ≡ copies_to h }
+{
+    clauses::copies_to(h).unwrap_or(NOBODY)
+}
+
+fn lock_held(h: Thread) -> u8
+    ensures { result ≡ lock_held h }
+{
+    clauses::lock_held(h).unwrap_or(NOBODY)
+}
+
 // The table is well-formed (document 01's "sound").
 pub fn well_formed(table: Table) -> bool
     ensures { result ≡ well_formed table }
@@ -137,7 +159,7 @@ pub fn well_formed(table: Table) -> bool
         if !clauses::thread_alone(n, x, h) {
             return false;
         }
-        let to = clauses::copies_to(h);
+        let to = copies_to(h);
         if to < n {
             let j = to as usize;
             let receiver = table.threads[j];
@@ -148,9 +170,9 @@ pub fn well_formed(table: Table) -> bool
         if !enter_senders(n, x, h, &mut waits) {
             return false;
         }
-        targets[i] = clauses::target_of(h);
+        targets[i] = target_of(h);
         owners[i] = h.owner;
-        held[i] = clauses::lock_held(h);
+        held[i] = lock_held(h);
         x += 1;
     }
     links_fit(n, &waits, &targets, &owners, &held)
