@@ -19,6 +19,7 @@ pub fn records(session: &mut Session, named: &[u32], out: &mut [u8]) -> usize {
 }
 
 // From now on so many places are lent to a count.
+// Kept beside `records`: each sets another field, and one function told which would be longer than both.
 pub fn places(session: &mut Session, named: &[u32], out: &mut [u8]) -> usize {
     session.places = number_at(named, 0) as usize;
     put_word(out, b"lent")

@@ -115,6 +115,7 @@ fn forced(
 }
 
 // Does what a command asks for: where the text of the answer ends.
+// Kept, matches on the row: a table of functions would hand function pointers out, and the arms take other arguments each.
 fn done(
     session: &mut Session,
     command: Asked,

@@ -79,6 +79,7 @@ fn play_on<R: Read>(
     let mut playback = opened;
     let mut start = reading::HEAD_BYTES;
     let mut supply = first;
+    // Kept: no `for` counts it, for each turn goes on by what a read gave.
     while supply.delivered < MOST_BYTES {
         let before = playback.place;
         let end = supply.end;

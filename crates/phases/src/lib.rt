@@ -189,6 +189,7 @@ pub fn step_threads(x: u8, o: Option<u8>, own: Thread, other: Thread, words: &mu
     ensures acted { Acted (decide_in (phase_of own.phase) x own other) x own other result }
     ensures words { words.new ≡ words_after own words.old }
 {
+    // Kept: document 01 names the form, a match on a copy of the phase number with a named function for each.
     let phase = own.phase;
     match phase {
         threads::IDLE => in_idle(x, own, other),

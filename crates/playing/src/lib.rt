@@ -12,6 +12,7 @@ use model::{EntryPoint, Table};
 use opening::Playback;
 
 // How far playing came, and whether an unlawful record stands there.
+// Kept, a flag beside the playback: `PlayPromise` settles the playback in both cases.
 #[derive(Clone, Copy)]
 pub struct Played {
     pub playback: Playback,
@@ -68,6 +69,7 @@ pub fn play(from: Playback, store: &mut [u32], bytes: &[u8]) -> Played
 {
     let mut now = from;
     let mut at: usize = 0;
+    // Kept: no `for` counts it, for each turn goes on by a record's length.
     while reading::is_lawful(false, &bytes[at..]) {
         let record = &bytes[at..];
         if !play_record(&mut now.table, store, record) {

@@ -11,6 +11,7 @@ ghost use Rattle.queues.specs.Places.{place_of, gap_closed};
 use model::{Queue, Thread};
 
 // The waiting senders of a queue, the earliest first.
+// Kept, a requires here and below: a `Queue` is a type of `model`, and a table that a caller gives may hold a longer one, which `queue_fits` refuses.
 fn waiting(queue: &Queue) -> &[u8]
     requires { queue.now.len ≤ 32 }
     ensures { result.now ≡ take queue.now.len queue.now.items }

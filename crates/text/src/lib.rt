@@ -22,6 +22,7 @@ const MINUS: u8 = b'-';
 const ZERO: u8 = b'0';
 
 // A caller's bytes, and how many of them at the front are written. Each method writes behind those, and leaves out what has no room.
+// Kept, no Display: an outcome, a thread and a record are each printed in several ways, and theirs could stand in `model` alone; nor does `write!` say where a text is cut off (`Written`).
 #[derive(Drop)]
 pub struct Text<'a> {
     out: &'a mut [u8],

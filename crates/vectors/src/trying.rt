@@ -129,6 +129,7 @@ fn begin_without_send<W: Write>(output: &mut W) -> io::Result<()> {
 }
 
 // Records of every kind and of none.
+// Kept beside `begin_without_send`: heading, cases and what is tried differ, and nothing else stands in them.
 fn write_records<W: Write>(output: &mut W) -> io::Result<()> {
     print(
         output,
