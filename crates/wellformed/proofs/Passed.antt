@@ -9,7 +9,7 @@ use native.Mathlib.Omega.{arith}
 use lib.ListN.{length, set, replicate, length-set, get_or-replicate}
 use lib.Seq.{get_or-set_same, get_or-set_other}
 use lib.Dec.{eqb}
-use borrow.Author.Tests.{ne_eqb}
+use borrow.Author.Tests.{lt-ltb, ne_eqb}
 use Rattle.model.specs.declared.Thread.{Thread}
 use Rattle.model.specs.declared.Table.{Table}
 use Rattle.model.specs.Lists.{all_below}
@@ -18,13 +18,13 @@ use Rattle.model.specs.Threads.{at}
 use Rattle.model.specs.Queues.{senders, ready}
 use Rattle.model.specs.Locks.{lock_held}
 use Rattle.model.specs.WellFormed.{sends_to}
-use Rattle.model.proofs.Laws.{by, same?}
+use Rattle.model.proofs.Laws.{by, same?, implies-read}
 use Rattle.formed.proofs.Own.{Own}
 use Rattle.formed.proofs.Facts.{target-other}
 use Rattle.formed.specs.Groups.{copies_to}
 use Rattle.formed.proofs.Formed.{of, owner, Formed}
 use Rattle.clauses.specs.Alone.{target_of}
-use Rattle.wellformed.specs.Links.{number_at, link_fits}
+use Rattle.wellformed.specs.Links.{number_at, link_fits, copy_ready}
 use Rattle.wellformed.specs.Waiting.{Free, Entered}
 use Rattle.wellformed.proofs.Waits.{Waits, waits-none, waits-more, waits-free, waits-queues, queues-waits}
 use Rattle.wellformed.proofs.Links.{Linked, links_told, links_made, linked_same}
@@ -85,11 +85,11 @@ module _ (t : Table) (few : t.n ≤ 32) where
 
   module _ {k : ℕ} {targets owners held waits : List ℕ} (P : Passed t k targets owners held waits) where
     -- one more
-    pub passed-more : (to : ℕ) (now : List ℕ) → k < t.n → Own t.n k (at t k) → to ≡ copies_to (at t k) → (to < t.n → ready (at t to) k ≡ true) → Entered t.n k (senders (at t k)) waits now
+    pub passed-more : (now : List ℕ) → k < t.n → Own t.n k (at t k) → copy_ready t k (at t k) ≡ true → Entered t.n k (senders (at t k)) waits now
         → Passed t (k + 1) (set targets k (target_of (at t k))) (set owners k (at t k).owner) (set held k (lock_held (at t k))) now
-    passed-more to now kn w i copy E = rw add-one (record {
+    passed-more now kn w copy E = rw add-one (record {
       own = λ x xn. same? x k (λ e. rw e w) (λ d. P.own x (omega arith));
-      copies = λ x xn. same? x k (λ e. rw (e, ← i) copy) (λ d. P.copies x (omega arith));
+      copies = λ x xn. same? x k (λ e. rw e (λ l. implies-read _ _ copy (lt-ltb _ _ l))) (λ d. P.copies x (omega arith));
       sending = gathered_more (of target_of (at t)) k targets (omega arith) P.sending;
       owning = gathered_more (of owner (at t)) k owners (omega arith) P.owning;
       holding = gathered_more (of lock_held (at t)) k held (omega arith) P.holding;

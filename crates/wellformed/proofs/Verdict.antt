@@ -3,20 +3,21 @@ use mathlib.Core.Path.{◌≡◌, sym, ◌∙◌}
 use mathlib.Core.Bool.{true≢false, false≢true, Bool, true, false}
 use mathlib.Core.List.{List}
 use Prim.Native.Nat.{ℕ, ◌≤◌, ◌<◌}
+use borrow.Author.Tests.{ltb-true}
 use Rattle.model.specs.declared.Table.{Table}
 use Rattle.model.specs.Lists.{all_below}
 use Rattle.model.specs.Rules.{rules_fit}
 use Rattle.model.specs.Threads.{at}
 use Rattle.model.specs.Queues.{senders, ready}
 use Rattle.model.specs.WellFormed.{Shaped, WellFormed, well_formed}
-use Rattle.model.proofs.Laws.{by}
+use Rattle.model.proofs.Laws.{by, implies-made}
 use Rattle.model.proofs.Numbers.{size-read, size-made}
 use Rattle.model.proofs.Tested.{well_formed-tested, well_formed-told}
 use Rattle.formed.specs.Groups.{copies_to}
 use Rattle.formed.proofs.Formed.{Formed, formed_grouped, formed_ungrouped}
 use Rattle.clauses.specs.Alone.{own_fits}
 use Rattle.clauses.proofs.Alone.{own-tested}
-use Rattle.wellformed.specs.Links.{number_at, link_fits}
+use Rattle.wellformed.specs.Links.{number_at, link_fits, copy_ready}
 use Rattle.wellformed.specs.Waiting.{Free}
 use Rattle.wellformed.proofs.Passed.{Passed, next-free, passed-formed, formed-passed}
 
@@ -42,8 +43,8 @@ module _ (t : Table) (z : Shaped t) where
   alone-refused x xn e = not-formed (λ F. true≢false (sym (own-tested t.n x (at t x) (F.own x xn)) ∙ e))
 
   -- thread x copies to one that is not ready
-  pub copy-refused : (x to : ℕ) → x < t.n → to ≡ copies_to (at t x) → to < t.n → ready (at t to) x ≡ false → false ≡ well_formed t
-  copy-refused x to xn i l e = not-formed (λ F. true≢false (sym (F.copies x xn (rw (← i) l)) ∙ rw (← i) e))
+  pub copy-refused : (x : ℕ) → x < t.n → copy_ready t x (at t x) ≡ false → false ≡ well_formed t
+  copy-refused x xn e = not-formed (λ F. true≢false (sym (implies-made _ _ (λ l. F.copies x xn (ltb-true _ _ l))) ∙ e))
 
   -- the senders of thread k are not free
   pub queue-refused : t.n ≤ 32 → {k : ℕ} {targets owners held waits : List ℕ} → Passed t k targets owners held waits → k < t.n → (Free t.n (number_at waits) (senders (at t k)) → ⊥) → false ≡ well_formed t

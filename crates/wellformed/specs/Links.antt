@@ -1,7 +1,12 @@
 -- What the code tests between threads, over what it gathers of each thread.
 use Rattle.std.specs.Prelude.{Bool, not, List, [], ◌∷◌, ℕ, suc, get_or, eqb, ltb}
+use Rattle.model.specs.declared.Thread.{Thread}
+use Rattle.model.specs.declared.Table.{Table}
 use Rattle.model.specs.Lists.{implies, all_of, all_below}
+use Rattle.model.specs.Threads.{at}
+use Rattle.model.specs.Queues.{ready}
 use Rattle.model.specs.WellFormed.{chain, within}
+use Rattle.formed.specs.Groups.{copies_to}
 
 -- the number that an array has for thread x
 abbrev pub number_at : List ℕ → ℕ → ℕ
@@ -24,3 +29,7 @@ link_fits n waits target owner holds r = all_of (
     ∷ chain_ends n owner r
     ∷ []
     )
+
+-- the thread to which thread x, which is h, copies is ready for x, if it is one of the table
+abbrev pub copy_ready : Table → ℕ → Thread → Bool
+copy_ready t x h = implies (ltb (copies_to h) t.n) (ready (at t (copies_to h)) x)
