@@ -1,15 +1,12 @@
-// Whether a table is well-formed (document 01's "sound"): each thread by itself, and what is gathered of the threads together.
+// Whether a table is well-formed (document 01's "sound"): each thread by itself, and the threads together.
 
-#![tactic(auto)]
+#![tactic(auto, unfolding(crate::specs::Links::points_back, crate::specs::Links::link_fits, model::specs::Lists::implies, model::specs::Lists::all_of, model::specs::Threads::at))]
 
-ghost use Rattle.std.specs.Prelude.{◌≡◌, ◌≤◌, ◌<◌, length, set, replicate};
-ghost use Rattle.model.specs.Codes.{nobody};
+ghost use Rattle.std.specs.Prelude.{◌≡◌, ◌≤◌, ◌<◌, length};
 ghost use Rattle.model.specs.Lists.{all_below};
-ghost use Rattle.model.specs.Locks.{lock_held};
 ghost use Rattle.model.specs.Queues.{senders};
 ghost use Rattle.model.specs.WellFormed.{well_formed};
-ghost use Rattle.clauses.specs.Alone.{target_of};
-ghost use Rattle.wellformed.specs.Links.{number_at, points_back, chain_ends, link_fits, copy_ready};
+ghost use Rattle.wellformed.specs.Links.{number_at, target_at, owner_at, held_at, points_back, chain_ends, link_fits, copy_ready};
 ghost use Rattle.wellformed.specs.Waiting.{EnteredOrNot};
 
 use model::{Table, Thread};
@@ -33,98 +30,68 @@ fn enter_senders(n: u8, r: u8, h: Thread, waits: &mut [u8; 32]) -> bool
     true
 }
 
-// A thread of the table to which r points, there, points back to r.
-#[tactic(auto, unfolding(crate::specs::Links::points_back, model::specs::Lists::implies))]
-fn points_back(n: u8, back: &[u8; 32], there: u8, r: u8) -> bool
-    requires { n ≤ 32 }
-    ensures { result ≡ points_back n (number_at back.now) there r }
+// The owner of the lock of thread r, if it is a thread of the table, holds that lock.
+fn owner_holds(table: &Table, r: u8) -> bool
+    requires { (table.now.n ≤ 32) × (r < table.now.n) }
+    ensures { result ≡ points_back table.now.n (held_at table.now) (owner_at table.now r) r }
 {
-    n <= there || back[there as usize] == r
+    let owner = table.threads[r as usize].owner;
+    if table.n <= owner {
+        return true;
+    }
+    clauses::lock_held(table.threads[owner as usize]).unwrap_or(NOBODY) == r
+}
+
+// The lock that thread r holds, if it is of a thread of the table, has r for its owner.
+fn owns_held(table: &Table, r: u8) -> bool
+    requires { (table.now.n ≤ 32) × (r < table.now.n) }
+    ensures { result ≡ points_back table.now.n (owner_at table.now) (held_at table.now r) r }
+{
+    match clauses::lock_held(table.threads[r as usize]) {
+        Some(held) if held < table.n => table.threads[held as usize].owner == r,
+        _ => true,
+    }
 }
 
 // The chain of lock owners from thread r does not come back to it.
-fn chain_ends(n: u8, owners: &[u8; 32], r: u8) -> bool
-    requires { (n ≤ 32) × (r < n) }
-    ensures { result ≡ chain_ends n (number_at owners.now) r }
+fn chain_ends(table: &Table, r: u8) -> bool
+    requires { (table.now.n ≤ 32) × (r < table.now.n) }
+    ensures { result ≡ chain_ends table.now.n (owner_at table.now) r }
 {
-    let mut owner = owners[r as usize];
-    for _ in 0..n {
-        if n <= owner {
+    let mut owner = table.threads[r as usize].owner;
+    for _ in 0..table.n {
+        if table.n <= owner {
             return true;
         }
         if owner == r {
             return false;
         }
-        owner = owners[owner as usize];
+        owner = table.threads[owner as usize].owner;
     }
     true
 }
 
-// What is gathered of the threads: where each waits, to whom it sends, who owns its lock and whose lock it holds, as numbers; nobody's where there is none.
-// Kept: an array of numbers for each, since the definitions of what fits speak of each by itself (`link_fits` of specs/Links, `Entered` of specs/Waiting).
-#[derive(Drop)]
-struct Gathered {
-    waits: [u8; 32],
-    targets: [u8; 32],
-    owners: [u8; 32],
-    held: [u8; 32],
+// Thread r fits together with the others: where it waits is where it sends to, and locks and their owners agree.
+fn link_fits(table: &Table, waits: &[u8; 32], r: u8) -> bool
+    requires { (table.now.n ≤ 32) × (r < table.now.n) }
+    ensures { result ≡ link_fits table.now.n (number_at waits.now) (target_at table.now) (owner_at table.now) (held_at table.now) r }
+{
+    let i = r as usize;
+    let target = clauses::target_of(table.threads[i]).unwrap_or(NOBODY);
+    (waits[i] == target) & owner_holds(table, r) & owns_held(table, r) & chain_ends(table, r)
 }
 
-impl Gathered {
-    // Nothing of any thread.
-    fn none() -> Gathered
-        ensures waits { result.waits ≡ replicate 32 nobody }
-        ensures targets { result.targets ≡ replicate 32 nobody }
-        ensures owners { result.owners ≡ replicate 32 nobody }
-        ensures held { result.held ≡ replicate 32 nobody }
-    {
-        Gathered {
-            waits: [NOBODY; 32],
-            targets: [NOBODY; 32],
-            owners: [NOBODY; 32],
-            held: [NOBODY; 32],
+// All threads fit together.
+fn links_fit(table: &Table, waits: &[u8; 32]) -> bool
+    requires { table.now.n ≤ 32 }
+    ensures { result ≡ all_below table.now.n (link_fits table.now.n (number_at waits.now) (target_at table.now) (owner_at table.now) (held_at table.now)) }
+{
+    for r in 0..table.n {
+        if !link_fits(table, waits, r) {
+            return false;
         }
     }
-
-    // Adds to whom thread x, which is h, sends, who owns its lock and whose lock it holds.
-    fn add(&mut self, x: u8, h: Thread)
-        requires { x < 32 }
-        ensures waits { self.new.waits ≡ self.old.waits }
-        ensures targets { self.new.targets ≡ set self.old.targets x (target_of h) }
-        ensures owners { self.new.owners ≡ set self.old.owners x h.owner }
-        ensures held { self.new.held ≡ set self.old.held x (lock_held h) }
-    {
-        let i = x as usize;
-        self.targets[i] = clauses::target_of(h).unwrap_or(NOBODY);
-        self.owners[i] = h.owner;
-        self.held[i] = clauses::lock_held(h).unwrap_or(NOBODY);
-    }
-
-    // What was gathered of thread r fits together with the others.
-    #[tactic(auto, unfolding(crate::specs::Links::link_fits, model::specs::Lists::all_of))]
-    fn link_fits(&self, n: u8, r: u8) -> bool
-        requires { (n ≤ 32) × (r < n) }
-        ensures { result ≡ link_fits n (number_at self.now.waits) (number_at self.now.targets) (number_at self.now.owners) (number_at self.now.held) r }
-    {
-        let i = r as usize;
-        (self.waits[i] == self.targets[i])
-            & points_back(n, &self.held, self.owners[i], r)
-            & points_back(n, &self.owners, self.held[i], r)
-            & chain_ends(n, &self.owners, r)
-    }
-
-    // What was gathered of all threads fits together.
-    fn fits(&self, n: u8) -> bool
-        requires { n ≤ 32 }
-        ensures { result ≡ all_below n (link_fits n (number_at self.now.waits) (number_at self.now.targets) (number_at self.now.owners) (number_at self.now.held)) }
-    {
-        for r in 0..n {
-            if !self.link_fits(n, r) {
-                return false;
-            }
-        }
-        true
-    }
+    true
 }
 
 // The thread of the table to which thread x, which is h, copies, if there is one, is ready for x.
@@ -146,16 +113,15 @@ pub fn well_formed(table: Table) -> bool
     if n < 1 || 32 < n || !rules::rules_fit(n, table.rules) {
         return false;
     }
-    let mut gathered = Gathered::none();
+    let mut waits = [NOBODY; 32];
     for x in 0..n {
         let h = table.threads[x as usize];
         if !clauses::thread_alone(n, x, h) || !copy_fits(&table, x, h) {
             return false;
         }
-        if !enter_senders(n, x, h, &mut gathered.waits) {
+        if !enter_senders(n, x, h, &mut waits) {
             return false;
         }
-        gathered.add(x, h);
     }
-    gathered.fits(n)
+    links_fit(&table, &waits)
 }

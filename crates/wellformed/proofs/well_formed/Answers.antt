@@ -17,7 +17,7 @@ returns-then-n-lt1 c = elim c.then-n-lt1.branch [
 ]
 
 pub loop-x-init : goal.loop-x-init
-loop-x-init c = let none = c.none-gathered.ensures in rw (none.waits, none.targets, none.owners, none.held) (passed_none c.args.table (omega arith))
+loop-x-init c = passed_none c.args.table (omega arith)
 
 -- thread x is not well-formed by itself, or the thread to which it copies is not ready
 pub returns-then-not-thread_alone : goal.returns-then-not-thread_alone
@@ -49,11 +49,10 @@ loop-x-preserved c =
     let whole = shaped c.args.table _ c.well_formed.0 (omega arith) in
     let own = own-told _ c.loop-x.x _ (sym c.thread_alone.ensures ∙ c.if-not-thread_alone.false) (whole.queues _ c.loop-x-test.true) in
     let copy = sym c.copy_fits.ensures ∙ c.if-not-copy_fits.false in
-    let now = c.add.ensures in
-    rw (now.waits, now.targets, now.owners, now.held) (passed-more _ (omega arith) c.loop-x.invariant _ c.loop-x-test.true own copy (c.enter_senders.ensures.yes c.if-not-enter_senders.false))
+    passed-more _ (omega arith) c.loop-x.invariant _ c.loop-x-test.true own copy (c.enter_senders.ensures.yes c.if-not-enter_senders.false)
 
 -- all threads passed
 pub returns : goal.returns
 returns c =
     let all : c.loop-x.x ≡ c.args.table.n = omega arith in
-    links_verdict _ (shaped c.args.table _ c.well_formed.0 (omega arith)) (omega arith) (omega arith) (sym c.rules_fit.ensures ∙ c.if-not-rules_fit.false) (rw all at c.loop-x.invariant) _ c.fits.ensures
+    links_verdict _ (shaped c.args.table _ c.well_formed.0 (omega arith)) (omega arith) (omega arith) (sym c.rules_fit.ensures ∙ c.if-not-rules_fit.false) (rw all at c.loop-x.invariant) _ c.links_fit.ensures

@@ -1,7 +1,7 @@
 use Rattle.std.proofs.Common.{refl, sym, ◌∙◌, arith}
 use Rattle.model.specs.Lists.{all_below}
 use Rattle.laws.proofs.Below.{all-below-fails, all-below-more, all-below-end}
-use Rattle.wellformed.proofs.Gathered.fits.Goals as goal
+use Rattle.wellformed.proofs.links_fit.Goals as goal
 
 pub loop-r-init : goal.loop-r-init
 unfolding all_below
