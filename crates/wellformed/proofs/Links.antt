@@ -1,5 +1,5 @@
--- The tests on what was gathered, and the clauses on locks and chains.
-use mathlib.Core.Path.{◌≡◌, refl, ◌∙◌, fun_ext}
+-- The tests between threads, and the clauses on locks and chains.
+use mathlib.Core.Path.{◌≡◌, refl}
 use mathlib.Core.Bool.{true}
 use Prim.Native.Nat.{ℕ, ◌≤◌, ◌<◌}
 use native.Mathlib.Omega.{arith}
@@ -76,19 +76,3 @@ module _ (n : ℕ) (few : n ≤ nobody) (waits target owner holds : ℕ → ℕ)
       and points_made n holds owner (owners_swapped n owner holds L.owners) r rn
       and chains-made n few owner L.chains r rn
       and tt))
-
--- ---- what is said of functions that agree below n
-module _ (n : ℕ) (waits target owner holds target' owner' holds' : ℕ → ℕ)
-    (sameTarget : (x : ℕ) → x < n → target x ≡ target' x) (sameOwner : (x : ℕ) → x < n → owner x ≡ owner' x) (sameHolds : (x : ℕ) → x < n → holds x ≡ holds' x) where
-  -- the owners of the table's threads are the same
-  within_same : within n owner ≡ within n owner'
-  unfolding within
-  within_same = fun_ext (λ r. by (ltb r n) (λ e. rw (e, sameOwner r (ltb-true r n e)) refl) (λ e. rw e refl))
-
-  -- it is said of both
-  pub linked_same : Linked n waits target owner holds → Linked n waits target' owner' holds'
-  linked_same L = record {
-    waiting = λ r rn. L.waiting r rn ∙ sameTarget r rn;
-    owners = λ r o rn on. rw (← sameOwner r rn, ← sameHolds o on) (L.owners r o rn on);
-    chains = rw (← within_same) L.chains;
-  }

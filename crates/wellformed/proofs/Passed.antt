@@ -1,48 +1,31 @@
 -- Thread by thread: what is known of the first k threads, and that it comes to a well-formed table.
-use mathlib.Core.Path.{◌≡◌, refl, sym, ◌∙◌}
+use mathlib.Core.Path.{◌≡◌, refl}
 use mathlib.Core.Logic.{◌≢◌}
 use mathlib.Core.Bool.{true}
 use mathlib.Core.List.{List}
-use Prim.Native.Nat.{ℕ, suc, ◌+◌, ◌≤◌, ◌<◌}
+use Prim.Native.Nat.{ℕ, ◌+◌, ◌≤◌, ◌<◌}
 use native.Mathlib.Numerals.{add-one}
 use native.Mathlib.Omega.{arith}
-use lib.ListN.{length, set, replicate, length-set, get_or-replicate}
-use lib.Seq.{get_or-set_same, get_or-set_other}
+use lib.ListN.{length, replicate, get_or-replicate}
 use lib.Dec.{eqb}
-use borrow.Author.Tests.{ne_eqb}
+use borrow.Author.Tests.{lt-ltb, ne_eqb}
 use Rattle.model.specs.declared.Thread.{Thread}
 use Rattle.model.specs.declared.Table.{Table}
 use Rattle.model.specs.Lists.{all_below}
 use Rattle.model.specs.Codes.{nobody}
 use Rattle.model.specs.Threads.{at}
 use Rattle.model.specs.Queues.{senders, ready}
-use Rattle.model.specs.Locks.{lock_held}
 use Rattle.model.specs.WellFormed.{sends_to}
-use Rattle.model.proofs.Laws.{by, same?}
+use Rattle.model.proofs.Laws.{by, same?, implies-read}
 use Rattle.formed.proofs.Own.{Own}
 use Rattle.formed.proofs.Facts.{target-other}
 use Rattle.formed.specs.Groups.{copies_to}
-use Rattle.formed.proofs.Formed.{of, owner, Formed}
+use Rattle.formed.proofs.Formed.{of, Formed}
 use Rattle.clauses.specs.Alone.{target_of}
-use Rattle.wellformed.specs.Links.{number_at, link_fits}
+use Rattle.wellformed.specs.Links.{number_at, target_at, owner_at, held_at, link_fits, copy_ready}
 use Rattle.wellformed.specs.Waiting.{Free, Entered}
 use Rattle.wellformed.proofs.Waits.{Waits, waits-none, waits-more, waits-free, waits-queues, queues-waits}
-use Rattle.wellformed.proofs.Links.{Linked, links_told, links_made, linked_same}
-
--- ---- an array of one number for each thread
--- what f says of the first k threads is in the array l
-pub record Gathered (f : ℕ → ℕ) (k : ℕ) (l : List ℕ) : Type 0 where
-  pub whole : length l ≡ 32
-  pub read : (x : ℕ) → x < k → number_at l x ≡ f x
-
--- one thread more
-gathered_more : (f : ℕ → ℕ) (k : ℕ) (l : List ℕ) → k < 32 → Gathered f k l → Gathered f (suc k) (set l k (f k))
-gathered_more f k l kn G = record {
-  whole = length-set l k (f k) ∙ G.whole;
-  read = λ x xn. same? x k
-      (λ e. rw e (get_or-set_same l k (f k) 0 (omega (arith, G.whole))))
-      (λ d. get_or-set_other l k x (f k) 0 d ∙ G.read x (omega arith));
-}
+use Rattle.wellformed.proofs.Links.{Linked, links_told, links_made}
 
 -- ---- the target of a thread
 -- a thread sends to its target, and to no other
@@ -56,13 +39,10 @@ unfolding target_of
 target_small {n} {x} {h} w = by h.flags.send (λ e. rw e (λ d. (target-other w e).below)) (λ e. rw e (λ d. absurd (d refl)))
 
 -- ---- the first k threads
--- they are well-formed by themselves, those to which they copy are ready, and what the other clauses speak of is gathered
-pub record Passed (t : Table) (k : ℕ) (targets owners held waits : List ℕ) : Type 0 where
+-- they are well-formed by themselves, those to which they copy are ready, and where their senders wait is entered
+pub record Passed (t : Table) (k : ℕ) (waits : List ℕ) : Type 0 where
   pub own : (x : ℕ) → x < k → Own t.n x (at t x)
   pub copies : (x : ℕ) → x < k → copies_to (at t x) < t.n → ready (at t (copies_to (at t x))) x ≡ true
-  pub sending : Gathered (of target_of (at t)) k targets
-  pub owning : Gathered (of owner (at t)) k owners
-  pub holding : Gathered (of lock_held (at t)) k held
   pub waiting : Waits t.n k (of senders (at t)) (number_at waits)
   pub places : length waits ≡ 32
 
@@ -72,27 +52,20 @@ module _ (t : Table) (few : t.n ≤ 32) where
   to-target s r rn = sends-target (at t s) r (omega arith)
 
   -- none yet
-  pub passed_none : Passed t 0 (replicate 32 nobody) (replicate 32 nobody) (replicate 32 nobody) (replicate 32 nobody)
+  pub passed_none : Passed t 0 (replicate 32 nobody)
   passed_none = record {
     own = λ x l. absurd (omega arith);
     copies = λ x l. absurd (omega arith);
-    sending = record { whole = refl; read = λ x l. absurd (omega arith) };
-    owning = record { whole = refl; read = λ x l. absurd (omega arith) };
-    holding = record { whole = refl; read = λ x l. absurd (omega arith) };
     waiting = waits-none t.n (omega arith) _ _ (λ s sn. get_or-replicate 32 s nobody 0 (omega arith));
     places = refl;
   }
 
-  module _ {k : ℕ} {targets owners held waits : List ℕ} (P : Passed t k targets owners held waits) where
+  module _ {k : ℕ} {waits : List ℕ} (P : Passed t k waits) where
     -- one more
-    pub passed-more : (to : ℕ) (now : List ℕ) → k < t.n → Own t.n k (at t k) → to ≡ copies_to (at t k) → (to < t.n → ready (at t to) k ≡ true) → Entered t.n k (senders (at t k)) waits now
-        → Passed t (k + 1) (set targets k (target_of (at t k))) (set owners k (at t k).owner) (set held k (lock_held (at t k))) now
-    passed-more to now kn w i copy E = rw add-one (record {
+    pub passed-more : (now : List ℕ) → k < t.n → Own t.n k (at t k) → copy_ready t k (at t k) ≡ true → Entered t.n k (senders (at t k)) waits now → Passed t (k + 1) now
+    passed-more now kn w copy E = rw add-one (record {
       own = λ x xn. same? x k (λ e. rw e w) (λ d. P.own x (omega arith));
-      copies = λ x xn. same? x k (λ e. rw (e, ← i) copy) (λ d. P.copies x (omega arith));
-      sending = gathered_more (of target_of (at t)) k targets (omega arith) P.sending;
-      owning = gathered_more (of owner (at t)) k owners (omega arith) P.owning;
-      holding = gathered_more (of lock_held (at t)) k held (omega arith) P.holding;
+      copies = λ x xn. same? x k (λ e. rw e (λ l. implies-read _ _ copy (lt-ltb _ _ l))) (λ d. P.copies x (omega arith));
       waiting = waits-more t.n (omega arith) _ k kn (number_at waits) (number_at now) P.waiting E.free E.now;
       places = E.whole;
     })
@@ -102,9 +75,9 @@ module _ (t : Table) (few : t.n ≤ 32) where
     next-free F kn = waits-free t.n (omega arith) _ _ _ to-target k (number_at waits) P.waiting F.queues kn
 
   -- ---- all threads
-  module _ {targets owners held waits : List ℕ} (P : Passed t t.n targets owners held waits) where
-    -- what is gathered fits together: the table is well-formed
-    pub passed-formed : all_below t.n (link_fits t.n (number_at waits) (number_at targets) (number_at owners) (number_at held)) ≡ true → Formed t.n (at t)
+  module _ {waits : List ℕ} (P : Passed t t.n waits) where
+    -- they fit together: the table is well-formed
+    pub passed-formed : all_below t.n (link_fits t.n (number_at waits) (target_at t) (owner_at t) (held_at t)) ≡ true → Formed t.n (at t)
     passed-formed e = record {
       few = few;
       own = P.own;
@@ -114,16 +87,14 @@ module _ (t : Table) (few : t.n ≤ 32) where
       copies = P.copies;
     }
       where
-        L : Linked t.n (number_at waits) (of target_of (at t)) (of owner (at t)) (of lock_held (at t))
-        L = linked_same t.n _ _ _ _ _ _ _ P.sending.read P.owning.read P.holding.read (links_told t.n (omega arith) _ _ _ _ e)
+        L : Linked t.n (number_at waits) (target_at t) (owner_at t) (held_at t)
+        L = links_told t.n (omega arith) _ _ _ _ e
 
-    -- the table is well-formed: what is gathered fits together
-    pub formed-passed : Formed t.n (at t) → all_below t.n (link_fits t.n (number_at waits) (number_at targets) (number_at owners) (number_at held)) ≡ true
-    formed-passed F = links_made t.n (omega arith) _ _ _ _ (linked_same t.n (number_at waits) (of target_of (at t)) (of owner (at t)) (of lock_held (at t)) _ _ _
-        (λ x xn. sym (P.sending.read x xn)) (λ x xn. sym (P.owning.read x xn)) (λ x xn. sym (P.holding.read x xn))
-        (record {
-          waiting = queues-waits t.n (omega arith) _ _ _ to-target (number_at waits) P.waiting
-              (λ s sn. target_small (F.own s sn)) F.queues;
-          owners = F.owners;
-          chains = F.chains;
-        }))
+    -- the table is well-formed: they fit together
+    pub formed-passed : Formed t.n (at t) → all_below t.n (link_fits t.n (number_at waits) (target_at t) (owner_at t) (held_at t)) ≡ true
+    formed-passed F = links_made t.n (omega arith) (number_at waits) (target_at t) (owner_at t) (held_at t) (record {
+      waiting = queues-waits t.n (omega arith) _ _ _ to-target (number_at waits) P.waiting
+          (λ s sn. target_small (F.own s sn)) F.queues;
+      owners = F.owners;
+      chains = F.chains;
+    })

@@ -3,20 +3,20 @@ use mathlib.Core.Path.{◌≡◌, sym, ◌∙◌}
 use mathlib.Core.Bool.{true≢false, false≢true, Bool, true, false}
 use mathlib.Core.List.{List}
 use Prim.Native.Nat.{ℕ, ◌≤◌, ◌<◌}
+use borrow.Author.Tests.{ltb-true}
 use Rattle.model.specs.declared.Table.{Table}
 use Rattle.model.specs.Lists.{all_below}
 use Rattle.model.specs.Rules.{rules_fit}
 use Rattle.model.specs.Threads.{at}
-use Rattle.model.specs.Queues.{senders, ready}
+use Rattle.model.specs.Queues.{senders}
 use Rattle.model.specs.WellFormed.{Shaped, WellFormed, well_formed}
-use Rattle.model.proofs.Laws.{by}
+use Rattle.model.proofs.Laws.{by, implies-made}
 use Rattle.model.proofs.Numbers.{size-read, size-made}
 use Rattle.model.proofs.Tested.{well_formed-tested, well_formed-told}
-use Rattle.formed.specs.Groups.{copies_to}
 use Rattle.formed.proofs.Formed.{Formed, formed_grouped, formed_ungrouped}
 use Rattle.clauses.specs.Alone.{own_fits}
 use Rattle.clauses.proofs.Alone.{own-tested}
-use Rattle.wellformed.specs.Links.{number_at, link_fits}
+use Rattle.wellformed.specs.Links.{number_at, target_at, owner_at, held_at, link_fits, copy_ready}
 use Rattle.wellformed.specs.Waiting.{Free}
 use Rattle.wellformed.proofs.Passed.{Passed, next-free, passed-formed, formed-passed}
 
@@ -42,11 +42,11 @@ module _ (t : Table) (z : Shaped t) where
   alone-refused x xn e = not-formed (λ F. true≢false (sym (own-tested t.n x (at t x) (F.own x xn)) ∙ e))
 
   -- thread x copies to one that is not ready
-  pub copy-refused : (x to : ℕ) → x < t.n → to ≡ copies_to (at t x) → to < t.n → ready (at t to) x ≡ false → false ≡ well_formed t
-  copy-refused x to xn i l e = not-formed (λ F. true≢false (sym (F.copies x xn (rw (← i) l)) ∙ rw (← i) e))
+  pub copy-refused : (x : ℕ) → x < t.n → copy_ready t x (at t x) ≡ false → false ≡ well_formed t
+  copy-refused x xn e = not-formed (λ F. true≢false (sym (implies-made _ _ (λ l. F.copies x xn (ltb-true _ _ l))) ∙ e))
 
   -- the senders of thread k are not free
-  pub queue-refused : t.n ≤ 32 → {k : ℕ} {targets owners held waits : List ℕ} → Passed t k targets owners held waits → k < t.n → (Free t.n (number_at waits) (senders (at t k)) → ⊥) → false ≡ well_formed t
+  pub queue-refused : t.n ≤ 32 → {k : ℕ} {waits : List ℕ} → Passed t k waits → k < t.n → (Free t.n (number_at waits) (senders (at t k)) → ⊥) → false ≡ well_formed t
   queue-refused few P kn clash = not-formed (λ F. clash (next-free t few P F kn))
 
   module _ (some : 1 ≤ t.n) (few : t.n ≤ 32) (fit : rules_fit t.n t.rules ≡ true) where
@@ -54,8 +54,8 @@ module _ (t : Table) (z : Shaped t) where
     formed : Formed t.n (at t) → true ≡ well_formed t
     formed F = sym (well_formed-tested t (formed_ungrouped t (size-made t.n some few) fit F))
 
-    -- all threads passed, and it is told whether what was gathered fits together
-    pub links_verdict : {targets owners held waits : List ℕ} → Passed t t.n targets owners held waits
-        → (b : Bool) → b ≡ all_below t.n (link_fits t.n (number_at waits) (number_at targets) (number_at owners) (number_at held)) → b ≡ well_formed t
+    -- all threads passed, and it is told whether they fit together
+    pub links_verdict : {waits : List ℕ} → Passed t t.n waits
+        → (b : Bool) → b ≡ all_below t.n (link_fits t.n (number_at waits) (target_at t) (owner_at t) (held_at t)) → b ≡ well_formed t
     links_verdict P true e = formed (passed-formed t few P (sym e))
     links_verdict P false e = not-formed (λ F. false≢true (e ∙ formed-passed t few P F))
