@@ -23,7 +23,7 @@ pub enum Ending {
 
 // The answer of a step, what it ends, if anything, and what it sets: poll, phase, copied and waking of its own thread, owner and poll of the other one.
 // A step that ends something sets more than that, and end_threads does it.
-// Kept, a phase by its number: it goes into a `Thread`, whose phase is one.
+// Kept, a phase by its number: `own_changed` puts it into a `Thread`, whose phase is one.
 #[derive(Clone, Copy)]
 pub struct Change {
     pub answer: Answer,

@@ -57,7 +57,7 @@ fn joins(n: u8, op: Operation) -> bool
 }
 
 // The thread whose queue a begin of x joins, or x itself where it joins none.
-// Kept: x's own number and no Option, since the definition says it so (`joined_thread` of specs/Begun).
+// Kept: x's own number and no Option, since whoever calls reads and writes that thread in any case: an Option would be `unwrap_or(x)` at each call.
 #[tactic(auto, unfolding(crate::specs::Begun::joined_thread))]
 pub fn joined_thread(n: u8, x: u8, op: Operation) -> u8
     ensures { result ≡ joined_thread n x op }

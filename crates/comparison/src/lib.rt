@@ -18,7 +18,7 @@ use threads::WORD_LIMIT;
 const LOG_ROOM: u16 = 512;
 
 // The number by which a log is refused.
-// Kept: a number, since a `Compared` of the definitions holds one (`bad_log` of logs/specs/Comparison).
+// Kept: a number, since the answer `Compared` of the definitions holds one: `compare_answer` tells that of the paper.
 const BAD_LOG: u8 = 22;
 
 // A log has at most 512 entries, of at most 8 words each.

@@ -1,6 +1,6 @@
 // The commands that call the engine. Each answers where the text of its answer ends.
 use crate::sessions::Session;
-use forcing::byte_of;
+use forcing::byte_at;
 use model::{Answer, EntryPoint, Operation, Returned};
 use telling::{put_line, put_loaded, put_word};
 
@@ -45,8 +45,8 @@ pub fn begin(
 pub fn step(session: &mut Session, named: &[u32], store: &mut [u32], out: &mut [u8]) -> usize {
     let words = session.words.min(store.len());
     let mut end = 0;
-    for x in named {
-        let returned = engine::step(session.table, byte_of(*x), &mut store[..words]);
+    for i in 0..named.len() {
+        let returned = engine::step(session.table, byte_at(named, i), &mut store[..words]);
         session.table = returned.table;
         end = put_line(out, end, returned.answer);
     }

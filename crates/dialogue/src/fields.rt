@@ -12,16 +12,9 @@ pub fn store(session: &mut Session, named: &[u32], store: &mut [u32], out: &mut 
     put_word(out, b"lent")
 }
 
-// From now on so many records are lent.
-pub fn records(session: &mut Session, named: &[u32], out: &mut [u8]) -> usize {
-    session.records = number_at(named, 0) as usize;
-    put_word(out, b"lent")
-}
-
-// From now on so many places are lent to a count.
-// Kept beside `records`: each sets another field, and one function told which would be longer than both.
-pub fn places(session: &mut Session, named: &[u32], out: &mut [u8]) -> usize {
-    session.places = number_at(named, 0) as usize;
+// From now on so many are lent: records to the report, or places to a count.
+pub fn lend(lent: &mut usize, named: &[u32], out: &mut [u8]) -> usize {
+    *lent = number_at(named, 0) as usize;
     put_word(out, b"lent")
 }
 

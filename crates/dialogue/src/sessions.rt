@@ -106,8 +106,8 @@ fn forced(
     let row = command.row;
     match row {
         STORE_ROW => fields::store(session, numbers, store, out),
-        RECORDS_ROW => fields::records(session, numbers, out),
-        PLACES_ROW => fields::places(session, numbers, out),
+        RECORDS_ROW => fields::lend(&mut session.records, numbers, out),
+        PLACES_ROW => fields::lend(&mut session.places, numbers, out),
         SIZE_ROW => fields::size(session, numbers, out),
         RULE_ROW => fields::rule(session, number, numbers, out),
         _ => fields::set(session, command, numbers, out),

@@ -14,7 +14,7 @@ pub fn number_at(numbers: &[u32], i: usize) -> u32 {
 }
 
 // The lesser of a number and 255.
-pub fn byte_of(number: u32) -> u8 {
+fn byte_of(number: u32) -> u8 {
     number.min(255) as u8
 }
 

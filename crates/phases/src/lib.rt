@@ -166,7 +166,7 @@ fn in_unlock(x: u8, own: Thread, other: Thread) -> Change
 }
 
 // The number of the one other thread that a step reads or changes, if there is one.
-// Kept, the phases by their numbers: a table can have any in `phase`, and a step with another than these is one of a thread that is idle.
+// Kept, the phases by their numbers: a table that a caller gives can have any in `phase` (`phase_of`). With one that is no phase, as with idle and sleep, there is no other thread.
 pub fn other_number(own: Thread) -> Option<u8>
     requires { own.queue.len ≤ 32 }
     ensures partner { result ≡ partner own }

@@ -13,6 +13,7 @@ ghost use Rattle.reading.specs.Heads.{lawful_head};
 use model::{Answer, Decoded, Operation, Record};
 
 // Kept, numbers for the kinds and no enum: a record's kind is any byte, for which `record_length` and `is_begin` answer, and of which `writing::write` says whether it is lawful.
+
 // The kind of the record that makes a table, the first of a schedule.
 pub const TABLE: u8 = 0;
 

@@ -60,7 +60,7 @@ impl<'l, 'b> Changes<'l, 'b> {
         }
     }
 
-    // Who waits now.
+    // Who waits now. A call that changes a queue changes its length too, so that places past the end tell nothing more.
     fn queue(&mut self, before: Queue, after: Queue) {
         if before == after {
             return;

@@ -12,7 +12,7 @@ pub const RECORDS: usize = 40;
 const NUMBER: u8 = 77;
 
 // What the report call answered, and the records after it.
-// Kept, no Result: the console looks at the records of a refused report too.
+// Kept, no Result: `compare` of the console's `watching` looks at the records of a refused report too.
 #[derive(Clone, Copy)]
 pub struct Filled {
     pub answer: Answer,
