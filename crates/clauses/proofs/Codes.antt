@@ -1,27 +1,15 @@
--- Codes as the code tests them: by their bits and by their bounds.
-use mathlib.Core.Path.{◌≡◌, refl, sym, ◌∙◌}
+-- Codes as the code tests them: by their bounds.
+use mathlib.Core.Path.{◌≡◌, refl}
 use mathlib.Core.Bool.{Bool, not, ◌&&◌, ◌||◌, beq}
 use native.Mathlib.Omega.{arith}
-use lib.Dec.{leb-suc-zero, eqb, ltb}
+use lib.Dec.{leb-suc-zero, ltb}
 use lib.IntN.{ℤ, pos, negsuc}
 use lib.Signed.{le_z}
-use mir.Syntax.{w32}
-use mir.Val.{SFits, of_z}
-use mir.Facts.{to_z-of_z}
-use borrow.Author.Tests.{ltb-true, ltb-false, lt-leb, eqb-true, eq-eqb, ne_eqb}
+use borrow.Author.Tests.{ltb-true, ltb-false, lt-leb, ne_eqb}
 use Rattle.model.specs.Lists.{all_below}
-use Rattle.model.specs.Codes.{codes, is_failure, same_code}
+use Rattle.model.specs.Codes.{codes, is_failure}
 use Rattle.model.specs.WellFormed.{is_code}
 use Rattle.model.proofs.Laws.{by, alike_read, all-below-read}
-use Rattle.laws.proofs.Codes.{code-itself, code_is}
-use Rattle.laws.proofs.Tests.{same_test}
-
--- codes have the same bits exactly where they are the same
-pub same_bits : (a z : ℤ) → SFits w32 a → SFits w32 z → eqb (of_z w32 z) (of_z w32 a) ≡ same_code a z
-same_bits a z fa fz = same_test _ _
-    (λ e. let i : of_z w32 z ≡ of_z w32 a = eqb-true _ _ e in
-    let j : z ≡ a = sym (to_z-of_z fz) ∙ rw i (to_z-of_z fa) in rw j (code-itself a))
-    (λ e. rw (code_is a z e) (eq-eqb (of_z w32 z) _ refl))
 
 -- a code is no failure and at most 2, or a failure from -6 to -2
 abbrev pub in_bounds : ℤ → Bool

@@ -37,7 +37,6 @@ fn nobody_or_below(n: u8, x: u8) -> bool
 }
 
 // The outcome's numbers are in range; its code is 1 exactly with ipc; source and count are bare unless it is 0.
-#[tactic(auto, using(crate::proofs::Codes::same_bits), unfolding(formed::specs::Groups::outcome_fits, model::specs::Lists::all_of))]
 fn outcome_fits(n: u8, ipc: bool, outcome: Outcome) -> bool
     ensures { result ≡ outcome_fits n ipc outcome }
 {

@@ -113,6 +113,8 @@ pub fn well_formed(table: Table) -> bool
     if n < 1 || 32 < n || !rules::rules_fit(n, table.rules) {
         return false;
     }
+    // where each thread waits
+    // Kept: numbers and no Options, since the definitions give nobody's number to a thread that waits nowhere (`Free` of specs/Waiting).
     let mut waits = [NOBODY; 32];
     for x in 0..n {
         let h = table.threads[x as usize];
