@@ -8,7 +8,7 @@ ghost use Rattle.columns.specs.Ranks.{senders_of, targets_of, earlier, place_of_
 use model::Pair;
 
 // Two pairs are the same.
-// Kept, no derived `==`: that tests the targets behind a branch, and comparing logs takes half as long again.
+// Kept, no derived `==`: that tests the targets behind a branch, and comparing logs takes a sixth more instructions, which the old form did not.
 fn same_pair(a: Pair, b: Pair) -> bool
     ensures { result ≡ (a.sender == b.sender) && (a.target == b.target) }
 {
