@@ -2,7 +2,7 @@
 
 #![tactic(auto, unfolding(model::specs::Step::reply_of, model::specs::Step::own_after, model::specs::Step::other_after, crate::specs::Acted::keeping, crate::specs::Acted::own_changed, crate::specs::Acted::other_changed))]
 
-ghost use Rattle.std.specs.Prelude.{◌≡◌, ℕ, ◌<◌, length, get_or, set};
+ghost use Rattle.std.specs.Prelude.{◌≡◌, ℕ, ◌<◌, length, get_or, set, IfSome};
 ghost use Rattle.model.specs.Answers.{Reply, said, replied};
 ghost use Rattle.model.specs.Phases.{Phase, phase_number};
 ghost use Rattle.model.specs.Step.{stay, take_lock, start_copy, to_release, copy_word, free_target, retry, to_idle, take_sender, clear_poll, free_sender};
@@ -179,11 +179,11 @@ pub fn free_sender(own: Thread, other: Thread) -> Change
     }
 }
 
-// The step ends something.
-pub fn end_by(ending: Ending, own: Thread, other: Thread) -> Change
-    ensures { (x : ℕ) → Acted (action_of ending) x own other result }
+// The step ends something, or moves and ends nothing.
+pub fn end_by(ending: Option<Ending>, own: Thread, other: Thread) -> Change
+    ensures { (x : ℕ) → IfSome ending (λ e. Acted (action_of e) x own other result) }
 {
-    keeping(Answer::Moved, Some(ending), own, other)
+    keeping(Answer::Moved, ending, own, other)
 }
 
 // The own thread with what a step sets of it.

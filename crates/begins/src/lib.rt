@@ -38,14 +38,13 @@ fn begun_flags(op: Operation) -> Flags
 fn begun_with(h: Thread, op: Operation, phase: u8) -> Thread
     ensures { (p : Phase) → phase ≡ phase_number p → result ≡ begun op p h }
 {
-    Thread {
-        flags: begun_flags(op),
-        phase,
-        op,
-        left: threads::tick_count(first_time(op)),
-        outcome: threads::code_only(threads::RUNNING),
-        ..h
-    }
+    let mut next = h;
+    next.flags = begun_flags(op);
+    next.phase = phase;
+    next.op = op;
+    next.left = threads::tick_count(first_time(op));
+    next.outcome = threads::code_only(threads::RUNNING);
+    next
 }
 
 // A begin joins a queue: it has a send part, and its target is one of the n threads.

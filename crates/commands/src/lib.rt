@@ -14,7 +14,8 @@ mod operations;
 mod receives;
 mod rows;
 
-use cursors::{Cursor, read_more, read_numbers};
+pub use cursors::Cursor;
+use cursors::{read_more, read_numbers};
 pub use letters::Reason;
 use letters::most_more;
 use model::Operation;

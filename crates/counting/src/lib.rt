@@ -23,7 +23,7 @@ fn try_step(table: Few, x: u8, left: u8, counts: &mut [u32])
     let other = table.threads[j];
     let change = few::change_of(x, o, own, other);
     if let Some(ending) = change.ending {
-        let both = endings::end_threads(x, ending, own, other);
+        let both = endings::end_threads(x, Some(ending), own, other);
         let p = few::place_with(table, i, both.own, j, both.other);
         if left == 1 {
             counts[p] += 1;

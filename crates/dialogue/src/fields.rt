@@ -44,7 +44,7 @@ fn row_of(named: &[u32]) -> Rule {
 pub fn rule(session: &mut Session, number: u64, named: &[u32], out: &mut [u8]) -> usize {
     let mut noted = session.noted;
     if MOST_NOTED <= noted.len {
-        return replies::put_error(out, 0, number, Reason::RowsFull, b"");
+        return replies::put_error(out, 0, number, Reason::RowsFull.into(), b"");
     }
     if noted.len < MOST_KEPT {
         noted.rows[noted.len as usize] = row_of(named);

@@ -61,7 +61,7 @@ fn note(
     out: &mut [u8],
 ) -> usize {
     if MOST_NOTED <= *len {
-        return replies::put_error(out, 0, number, Reason::LogFull, b"");
+        return replies::put_error(out, 0, number, Reason::LogFull.into(), b"");
     }
     put_entry(log, *len, sender, target, named);
     *len += 1;

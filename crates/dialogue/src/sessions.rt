@@ -160,7 +160,7 @@ pub fn respond(
         }
         Err(misread) => {
             let word = &line[misread.word.start..misread.word.end];
-            replies::put_error(out, 0, number, misread.reason, word)
+            replies::put_error(out, 0, number, misread.reason.into(), word)
         }
     };
     Reply { session: next, end }

@@ -2,7 +2,7 @@
 
 #![tactic(auto, unfolding(model::specs::Step::own_after, model::specs::Step::other_after, model::specs::Step::received))]
 
-ghost use Rattle.std.specs.Prelude.{◌≡◌, true, ℕ};
+ghost use Rattle.std.specs.Prelude.{◌≡◌, true, ℕ, IfSome, MatchOption};
 ghost use Rattle.model.specs.declared.Thread.{Thread};
 ghost use Rattle.model.specs.Step.{received, abort_send, finish_call, finish_send, abort_receive};
 ghost use Rattle.actions.specs.Acted.{action_of};
@@ -96,7 +96,7 @@ fn abort_receive(code: i32, own: Thread, other: Thread) -> Pair
 }
 
 // Both threads after an ending.
-pub fn end_threads(x: u8, ending: Ending, own: Thread, other: Thread) -> Pair
+fn end_both(x: u8, ending: Ending, own: Thread, other: Thread) -> Pair
     requires { ends_send ending ≡ true → Waits x other }
     ensures { Ended (action_of ending) x own other result }
 {
@@ -107,5 +107,16 @@ pub fn end_threads(x: u8, ending: Ending, own: Thread, other: Thread) -> Pair
         Ending::SendFinished => finish_send(x, own, other),
         Ending::ReceiveCancelled => abort_receive(threads::RECEIVE_CANCELLED, own, other),
         Ending::ReceiveTimeOver => abort_receive(threads::RECEIVE_TIME_OVER, own, other),
+    }
+}
+
+// Both threads after what a step ends; where it ends nothing, as they were.
+pub fn end_threads(x: u8, ending: Option<Ending>, own: Thread, other: Thread) -> Pair
+    requires { IfSome ending (λ e. ends_send e ≡ true → Waits x other) }
+    ensures { MatchOption ending ((result.own ≡ own) × (result.other ≡ other)) (λ e. Ended (action_of e) x own other result) }
+{
+    match ending {
+        None => Pair { own, other },
+        Some(ending) => end_both(x, ending, own, other),
     }
 }

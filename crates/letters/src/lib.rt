@@ -9,23 +9,31 @@ ghost use Rattle.letters.specs.Measured.{Measured, number_of};
 
 use scanning::{is_word, number};
 
-// Why a line is no command, or is refused.
+// Why a line is no command, or is refused, by the number that the language gives it.
 #[derive(Clone, Copy, PartialEq, Eq)]
 pub enum Reason {
-    NoCommand,
-    NoField,
-    NoPart,
-    Missing,
-    NotNumber,
-    TooLarge,
-    TooSmall,
-    TooMuch,
-    TooLong,
-    NotRecord,
-    TableFirst,
-    NoChoice,
-    RowsFull,
-    LogFull,
+    NoCommand = 1,
+    NoField = 2,
+    NoPart = 3,
+    Missing = 4,
+    NotNumber = 5,
+    TooLarge = 6,
+    TooSmall = 7,
+    TooMuch = 8,
+    TooLong = 9,
+    NotRecord = 10,
+    TableFirst = 11,
+    NoChoice = 12,
+    RowsFull = 13,
+    LogFull = 14,
+}
+
+impl From<Reason> for u8 {
+    ghost from_gives = { λ reason result. result ≡ number_of reason };
+
+    fn from(reason: Reason) -> u8 {
+        reason as u8
+    }
 }
 
 // The letters: a flag, a thread, a record, a size of the store, a byte, a place of a queue, a word, ticks, a code with its sign, yes or no, and how many places are lent.

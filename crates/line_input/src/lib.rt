@@ -2,7 +2,7 @@
 
 #![tactic(auto)]
 
-ghost use Rattle.std.specs.Prelude.{◌≡◌, ◌≤◌, length, slice_range, IfOk, IfSome};
+ghost use Rattle.std.specs.Prelude.{◌≡◌, ◌≤◌, length, slice_range, IfOk, IfSome, IfNone};
 
 use scanning::line_end;
 use std::io;
@@ -88,6 +88,8 @@ impl<'a> Lines<'a> {
         requires stop_le_next { stop ≤ next }
         requires next_le_end { next ≤ self.old.end }
         ensures line { LiesIn (length self.new.buffer.now) result }
+        ensures taken { (result.start ≡ self.old.start) × (result.stop ≡ stop) }
+        ensures left { (self.new.start ≡ next) × (self.new.end ≡ self.old.end) }
         ensures same_buffer { self.new.buffer.ghost_name ≡ self.old.buffer.ghost_name }
         ensures same_bytes { self.new.buffer.now ≡ self.old.buffer.now }
     {
@@ -100,6 +102,7 @@ impl<'a> Lines<'a> {
     // The next line, where it is all read, or where enough is read to see that it is too long: then its first bytes.
     fn next_line(&mut self) -> Option<Line>
         ensures line { IfSome result (LiesIn (length self.new.buffer.now)) }
+        ensures none { IfNone result ((self.new.start ≡ self.old.start) × (self.new.end ≡ self.old.end)) }
         ensures same_buffer { self.new.buffer.ghost_name ≡ self.old.buffer.ghost_name }
         ensures same_bytes { self.new.buffer.now ≡ self.old.buffer.now }
     {

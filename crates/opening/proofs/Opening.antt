@@ -1,5 +1,5 @@
 -- The table record: whether it is refused, how large a table it makes, and that the playback can go on from there.
-use Rattle.std.proofs.Common.{◌≡◌, ℕ, ◌*◌, true, false, List, refl, ap, arith}
+use Rattle.std.proofs.Common.{◌≡◌, ℕ, zero, suc, ◌*◌, true, false, ◌≢◌, List, sym, refl, ap, arith}
 use Rattle.model.specs.Refusals.{unless, make_refusal}
 use Rattle.model.specs.RecordBytes.{thread_byte, lawful}
 use Rattle.model.specs.Decoding.{front}
@@ -23,6 +23,12 @@ module _ (input : List ℕ) where
   pub opened-size : open_refusal input ≡ 0 → open_size input ≡ thread_byte input
   unfolding open_size unless
   opened-size e = rw e refl
+
+  -- where they are, none is made
+  pub refused-size : (g : ℕ) → g ≡ open_refusal input → g ≢ 0 → open_size input ≡ 0
+  unfolding open_size unless
+  refused-size zero is d = absurd (d refl)
+  refused-size (suc g) is d = rw (sym is) refl
 
 -- the playback of a table record that is not refused can go on
 pub opened-steady : (n : ℕ) → make_refusal n ≡ 0 → Steady (opened n)

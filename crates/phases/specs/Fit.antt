@@ -2,6 +2,7 @@
 use Rattle.std.specs.Prelude.{◌≡◌, true, false, cond, List, ℕ, ◌≤◌, get_or, set, eqb, ltb, Option, Some, None}
 use Rattle.std.proofs.Math.Option as maybe
 use Rattle.model.specs.declared.Thread.{Thread}
+use Rattle.model.specs.Codes.{nobody}
 use Rattle.model.specs.Operations.{word_limit}
 use Rattle.model.specs.Phases.{Phase, idle, lock, check, copy, release, sleep, look, wake, unlock, unknown, phase_of, phase_number}
 use Rattle.model.specs.Queues.{find_sender}
@@ -34,6 +35,15 @@ pub record LooksOn (h : Thread) (o : maybe.Option ℕ) : Type 0 where
 pub record Fit (o : Option ℕ) (h : Thread) : Type 0 where
   pub counts : phase_of h.phase ≡ copy → h.op.send.count ≤ word_limit
   pub finds : phase_of h.phase ≡ look → o ≡ as_option (find_sender h)
+
+-- what the search has found, where a number is that of the first acceptable sender or nobody's
+unfoldable pub found_as : ℕ → maybe.Option ℕ
+found_as o = cond (eqb o nobody) maybe.none (maybe.some o)
+
+-- the same of thread h and the number of the other thread: nobody's is that of no thread
+pub record FitAs (o : ℕ) (h : Thread) : Type 0 where
+  pub counts : phase_of h.phase ≡ copy → h.op.send.count ≤ word_limit
+  pub finds : phase_of h.phase ≡ look → find_sender h ≡ found_as o
 
 -- the receiver's eight words after a step in copy: the next word, if one remains
 unfoldable pub word_added : Thread → List ℕ → List ℕ

@@ -47,13 +47,13 @@ fn in_check(x: u8, own: Thread, other: Thread) -> Change
     let ready = threads::is_ready(other, x);
     let late = own.left == 0;
     if own.flags.mark {
-        return actions::end_by(Ending::SendCancelled, own, other);
+        return actions::end_by(Some(Ending::SendCancelled), own, other);
     }
     if ready {
         return actions::start_copy(own, other);
     }
     if late {
-        return actions::end_by(Ending::SendTimeOver, own, other);
+        return actions::end_by(Some(Ending::SendTimeOver), own, other);
     }
     actions::go_to_release(own, other)
 }
@@ -69,9 +69,9 @@ fn in_copy(x: u8, own: Thread, other: Thread, words: &mut [u32]) -> Change
         return actions::copy_word(own, other, words);
     }
     if threads::has_receive(own.op.receive) {
-        return actions::end_by(Ending::CallFinished, own, other);
+        return actions::end_by(Some(Ending::CallFinished), own, other);
     }
-    actions::end_by(Ending::SendFinished, own, other)
+    actions::end_by(Some(Ending::SendFinished), own, other)
 }
 
 // Release: free the target's lock; then sleep, look or idle.
@@ -106,7 +106,7 @@ fn in_look(x: u8, o: Option<u8>, own: Thread, other: Thread) -> Change
         return actions::go_idle(own, other);
     }
     if own.flags.mark {
-        return actions::end_by(Ending::ReceiveCancelled, own, other);
+        return actions::end_by(Some(Ending::ReceiveCancelled), own, other);
     }
     match o {
         None => look_alone(x, own, other),
@@ -120,7 +120,7 @@ fn look_alone(x: u8, own: Thread, other: Thread) -> Change
     ensures { Acted (decide_in look x own other) x own other result }
 {
     if own.left == 0 {
-        return actions::end_by(Ending::ReceiveTimeOver, own, other);
+        return actions::end_by(Some(Ending::ReceiveTimeOver), own, other);
     }
     actions::stay_with(Answer::Asleep, own, other)
 }
@@ -140,7 +140,7 @@ fn look_at_sender(x: u8, s: u8, own: Thread, other: Thread) -> Change
     ensures { Acted (decide_in look x own other) x own other result }
 {
     if is_overdue(own) {
-        return actions::end_by(Ending::ReceiveTimeOver, own, other);
+        return actions::end_by(Some(Ending::ReceiveTimeOver), own, other);
     }
     if !other.flags.poll {
         return actions::stay_with(Answer::Asleep, own, other);
@@ -173,11 +173,13 @@ pub fn other_number(own: Thread) -> Option<u8>
     ensures number { unwrap_or result nobody ≡ other own }
 {
     match own.phase {
-        threads::LOCK | threads::CHECK | threads::COPY | threads::RELEASE => Some(
-            own.op.send.target,
-        ),
+        threads::LOCK => Some(own.op.send.target),
+        threads::CHECK => Some(own.op.send.target),
+        threads::COPY => Some(own.op.send.target),
+        threads::RELEASE => Some(own.op.send.target),
         threads::LOOK => queues::first_acceptable(own).sender,
-        threads::WAKE | threads::UNLOCK => Some(own.waking),
+        threads::WAKE => Some(own.waking),
+        threads::UNLOCK => Some(own.waking),
         _ => None,
     }
 }

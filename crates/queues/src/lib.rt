@@ -78,7 +78,9 @@ pub fn join(h: Thread, s: u8) -> Thread
     let mut queue = h.queue;
     queue.items[queue.len as usize] = s;
     queue.len += 1;
-    Thread { queue, ..h }
+    let mut next = h;
+    next.queue = queue;
+    next
 }
 
 // The first place of s in a queue, or past the last.
@@ -116,8 +118,7 @@ pub fn depart(h: Thread, s: u8) -> Thread
 {
     let place = place_of(h.queue, s);
     let shorter = close_gap(h.queue, place);
-    Thread {
-        queue: shorter,
-        ..h
-    }
+    let mut next = h;
+    next.queue = shorter;
+    next
 }

@@ -1,20 +1,37 @@
 -- Laws of reasons as text, and of words that are said.
 use Rattle.std.proofs.Common.{◌≢◌, ◌≡◌, refl, sym, ◌∙◌, ap, true, false, not, List, [], ◌∷◌, ◌++◌, append_assoc, append-nil, ℕ, zero, suc, ◌≤◌, eqb, length, drop, arith}
+use Rattle.std.proofs.Math.ListN.{get_or-eq_default}
 use Rattle.std.proofs.Math.Seq.{drop-nil}
 use borrow.Author.Tests.{eq-eqb, ne_eqb}
 use Rattle.model.specs.Lists.{up_to}
 use Rattle.model.specs.Schedule.{is_empty}
 use Rattle.model.specs.Bondtrace.{ascii}
 use Rattle.language.specs.Words.{words}
-use Rattle.language.specs.Commands.{not_number}
-use Rattle.letters.specs.declared.Reason.{Reason}
-use Rattle.letters.specs.declared.Reason.TheVariants.{NoCommand, NoField, NoPart, Missing, NotNumber, TooLarge, TooSmall, TooMuch, TooLong, NotRecord, TableFirst, NoChoice, RowsFull, LogFull}
-use Rattle.letters.specs.Measured.{number_of}
+use Rattle.language.specs.Commands.{not_number, reasons, reason_text}
 use Rattle.scanning.specs.Scanned.{Found, between}
 use Rattle.text.specs.declared.Text.{Text}
 use Rattle.text.specs.Writing.{written}
 use Rattle.text.proofs.Writing.{written_none, written_joined}
 use Rattle.replies.specs.Replied.{names_word, named_word, behind_spaces}
+
+-- ---- reasons
+-- past the last reason there is no text
+pub no-text : (k : ℕ) → 15 ≤ k → reason_text k ≡ []
+unfolding reason_text reasons
+no-text k past = get_or-eq_default reasons [] past
+
+-- so there is none for a number that no reason has
+pub no-reason : (k : ℕ) → k ≢ 0 → k ≢ 1 → k ≢ 2 → k ≢ 3 → k ≢ 4 → k ≢ 5 → k ≢ 6 → k ≢ 7 → k ≢ 8 → k ≢ 9 → k ≢ 10 → k ≢ 11 → k ≢ 12 → k ≢ 13 → k ≢ 14 → reason_text k ≡ []
+no-reason k n0 n1 n2 n3 n4 n5 n6 n7 n8 n9 n10 n11 n12 n13 n14 = no-text k (last k (past k (half k n0 n1 n2 n3 n4 n5) n6 n7 n8 n9 n10 n11) n12 n13 n14)
+  where
+    half : (k : ℕ) → k ≢ 0 → k ≢ 1 → k ≢ 2 → k ≢ 3 → k ≢ 4 → k ≢ 5 → 6 ≤ k
+    half k n0 n1 n2 n3 n4 n5 = omega arith
+
+    past : (k : ℕ) → 6 ≤ k → k ≢ 6 → k ≢ 7 → k ≢ 8 → k ≢ 9 → k ≢ 10 → k ≢ 11 → 12 ≤ k
+    past k h n6 n7 n8 n9 n10 n11 = omega arith
+
+    last : (k : ℕ) → 12 ≤ k → k ≢ 12 → k ≢ 13 → k ≢ 14 → 15 ≤ k
+    last k h n12 n13 n14 = omega arith
 
 -- ---- the word that is wrong
 -- a word is empty where it has no byte
@@ -22,29 +39,17 @@ no_byte : (word : List ℕ) → eqb (length word) 0 ≡ is_empty word
 no_byte [] = refl
 no_byte (byte ∷ word) = ne_eqb (suc (length word)) 0 (λ e. omega arith)
 
--- only one reason has the number of `not a number`
-other-reason : (reason : Reason) → reason ≢ NotNumber → eqb (number_of reason) not_number ≡ false
-other-reason NoCommand d = refl
-other-reason NoField d = refl
-other-reason NoPart d = refl
-other-reason Missing d = refl
-other-reason NotNumber d = absurd (d refl)
-other-reason TooLarge d = refl
-other-reason TooSmall d = refl
-other-reason TooMuch d = refl
-other-reason TooLong d = refl
-other-reason NotRecord d = refl
-other-reason TableFirst d = refl
-other-reason NoChoice d = refl
-other-reason RowsFull d = refl
-other-reason LogFull d = refl
-
--- of another reason a word is named
-pub names_some : (reason : Reason) (word : List ℕ) → reason ≢ NotNumber → not (eqb (length word) 0) ≡ names_word (number_of reason) word
-unfolding names_word
-names_some reason word d = rw (other-reason reason d, no_byte)
-
 module _ (reason : ℕ) (word : List ℕ) where
+  -- what is no number is named
+  pub names_none : reason ≡ not_number → true ≡ names_word reason word
+  unfolding names_word
+  names_none e = rw (eq-eqb reason not_number e)
+
+  -- of another reason a word is
+  pub names_some : reason ≢ not_number → not (eqb (length word) 0) ≡ names_word reason word
+  unfolding names_word
+  names_some n = rw (ne_eqb reason not_number n, no_byte)
+
   -- it is named
   pub named : names_word reason word ≡ true → named_word reason word ≡ ascii ": " ++ word
   unfolding named_word

@@ -5,7 +5,6 @@
 ghost use Rattle.std.specs.Prelude.{◌≡◌, ◌≤◌, length, drop};
 ghost use Rattle.language.specs.Words.{words};
 ghost use Rattle.language.specs.Commands.{reason_text};
-ghost use Rattle.letters.specs.Measured.{number_of};
 ghost use Rattle.text.specs.Writing.{written, Written};
 ghost use Rattle.replies.specs.Replied.{names_word, named_word, error_text, behind_spaces, joined_words, said_text};
 
@@ -13,41 +12,43 @@ use letters::Reason;
 use scanning::next_word;
 use text::{NEWLINE, SPACE, Text};
 
-// A reason in plain words.
-fn text_of(reason: Reason) -> &'static [u8]
-    ensures { result.now ≡ reason_text (number_of reason) }
+// A reason in plain words, by its number; past the last there are none.
+fn text_of(reason: u8) -> &'static [u8]
+    ensures { result.now ≡ reason_text reason }
 {
     match reason {
-        Reason::NoCommand => b"no such command",
-        Reason::NoField => b"no such field",
-        Reason::NoPart => b"neither send nor receive",
-        Reason::Missing => b"a number is missing",
-        Reason::NotNumber => b"not a number",
-        Reason::TooLarge => b"number too large",
-        Reason::TooSmall => b"number too small",
-        Reason::TooMuch => b"too much on the line",
-        Reason::TooLong => b"line too long",
-        Reason::NotRecord => b"no line of a schedule",
-        Reason::TableFirst => b"table stands first, and only there",
-        Reason::NoChoice => b"neither yes nor no",
-        Reason::RowsFull => b"no more than 80 rows are kept",
-        Reason::LogFull => b"no more than 520 entries are kept",
+        0 => b"no error",
+        1 => b"no such command",
+        2 => b"no such field",
+        3 => b"neither send nor receive",
+        4 => b"a number is missing",
+        5 => b"not a number",
+        6 => b"number too large",
+        7 => b"number too small",
+        8 => b"too much on the line",
+        9 => b"line too long",
+        10 => b"no line of a schedule",
+        11 => b"table stands first, and only there",
+        12 => b"neither yes nor no",
+        13 => b"no more than 80 rows are kept",
+        14 => b"no more than 520 entries are kept",
+        _ => b"",
     }
 }
 
 // Whether the word that is wrong is named: an empty one only between commas.
-fn names_word(reason: Reason, word: &[u8]) -> bool
-    ensures { result ≡ names_word (number_of reason) word.now }
+fn names_word(reason: u8, word: &[u8]) -> bool
+    ensures { result ≡ names_word reason word.now }
 {
-    match reason {
-        Reason::NotNumber => true,
-        _ => !word.is_empty(),
+    if reason == u8::from(Reason::NotNumber) {
+        return true;
     }
+    !word.is_empty()
 }
 
 // The word that is wrong, behind a colon, where it is named.
-fn put_named(out: &mut Text, reason: Reason, word: &[u8])
-    ensures { out.new ≡ written (named_word (number_of reason) word.now) out.old }
+fn put_named(out: &mut Text, reason: u8, word: &[u8])
+    ensures { out.new ≡ written (named_word reason word.now) out.old }
 {
     if names_word(reason, word) {
         out.bytes(b": ");
@@ -55,9 +56,9 @@ fn put_named(out: &mut Text, reason: Reason, word: &[u8])
     }
 }
 
-// The line that says why line n is no command.
-pub fn put_error(out: &mut [u8], start: usize, n: u64, reason: Reason, word: &[u8]) -> usize
-    ensures { Written start (error_text n (number_of reason) word.now) out.old out.new result }
+// The line that says why line n is no command, by the number of a reason.
+pub fn put_error(out: &mut [u8], start: usize, n: u64, reason: u8, word: &[u8]) -> usize
+    ensures { Written start (error_text n reason word.now) out.old out.new result }
 {
     let mut text = Text::at(out, start);
     text.bytes(b"error at line ");

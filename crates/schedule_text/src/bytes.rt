@@ -22,7 +22,7 @@ use writing::write;
 // Says why line n is none of a schedule, and at which word.
 fn say_wrong<E: Write>(errors: &mut E, n: u64, reason: Reason, word: &[u8]) -> io::Result<()> {
     let mut text = [0u8; 65536];
-    let end = put_error(&mut text, 0, n, reason, word);
+    let end = put_error(&mut text, 0, n, reason.into(), word);
     errors.write_all(&text[..end])
 }
 

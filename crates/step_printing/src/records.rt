@@ -18,6 +18,17 @@ pub enum Mode {
     Logs,
 }
 
+// The mode of a number: any but those of the other two prints every field.
+impl From<u8> for Mode {
+    fn from(number: u8) -> Mode {
+        match number {
+            1 => Mode::Words,
+            2 => Mode::Logs,
+            _ => Mode::Full,
+        }
+    }
+}
+
 // Prints the lines of all threads.
 fn print_threads<W: Write>(output: &mut W, table: Table, store: &[u32]) -> io::Result<()> {
     for (x, thread) in (0..table.n).zip(&table.threads) {
@@ -182,14 +193,19 @@ fn follow_from<R: Read, W: Write>(
     )
 }
 
-// Follows the schedule that an input delivers, to its end or to a record that is refused, and prints what the mode says.
-pub fn follow<R: Read, W: Write>(input: &mut R, output: &mut W, mode: Mode) -> io::Result<()> {
+// Follows the schedule that an input delivers, to its end or to a record that is refused, and prints what the mode, or its number, says.
+pub fn follow<R: Read, W: Write, M: Into<Mode>>(
+    input: &mut R,
+    output: &mut W,
+    mode: M,
+) -> io::Result<()> {
+    let asked: Mode = mode.into();
     let mut space = [0u8; 65536];
     let mut records = Records::new(&mut space);
     match records.next_record(input, true)? {
         // A schedule has a first record.
         Next::Over => unreachable!(),
         Next::Refused(number) => print_bad(output, number, 0),
-        Next::Found(first) => follow_from(input, output, &mut records, first, mode),
+        Next::Found(first) => follow_from(input, output, &mut records, first, asked),
     }
 }

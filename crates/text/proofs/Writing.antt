@@ -98,6 +98,14 @@ pub ruleset storing = (written_none, written_byte, written_full, written_joined,
 pub written-length : {start : ℕ} {text before after : List ℕ} {stop : ℕ} → Written start text before after stop → length after ≡ length before
 written-length {start} {text} {before} w = ap length w.bytes ∙ length-sets before start text
 
+-- two texts that are written one behind the other are one
+infixl 65 ◌then◌
+pub ◌then◌ : {start middle stop : ℕ} {a b before between after : List ℕ} → Written start a before between middle → Written middle b between after stop → Written start (a ++ b) before after stop
+◌then◌ {start} {middle} {stop} {a} {b} {before} {between} {after} v w = record {
+  bytes = w.bytes ∙ ap (λ (l : List ℕ). sets l middle b) v.bytes ∙ ap (λ (k : ℕ). sets (sets before start a) k b) v.place ∙ sets_cut a b before start;
+  place = omega (arith, length-append a b, written-length v, v.place, w.place);
+}
+
 -- the place behind one that is written from the first byte on counts bytes that are there
 pub written-counts : {text before after : List ℕ} {stop : ℕ} → Written 0 text before after stop → Counts stop after
 written-counts {after = after} {stop} w = let inside : stop ≤ length after = omega (arith, written-length w, w.place) in (inside, sym (length-take-le stop after inside))

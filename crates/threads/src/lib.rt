@@ -231,11 +231,10 @@ pub fn no_flags() -> Flags
 pub fn end_with(h: Thread, outcome: Outcome) -> Thread
     ensures { result ≡ ended outcome h }
 {
-    Thread {
-        flags: no_flags(),
-        outcome,
-        ..h
-    }
+    let mut next = h;
+    next.flags = no_flags();
+    next.outcome = outcome;
+    next
 }
 
 // An ending that is not a completed receive: all flags clear, the code, source 255 and count 0.
@@ -267,22 +266,18 @@ pub fn no_operation() -> Operation
 pub fn drop_receive(h: Thread) -> Thread
     ensures { result ≡ without_receive h }
 {
-    let op = Operation {
-        receive: Receive::Absent,
-        ..h.op
-    };
-    Thread { op, ..h }
+    let mut next = h;
+    next.op.receive = Receive::Absent;
+    next
 }
 
 // The mark set.
 pub fn set_mark(h: Thread) -> Thread
     ensures { result ≡ marked h }
 {
-    let flags = Flags {
-        mark: true,
-        ..h.flags
-    };
-    Thread { flags, ..h }
+    let mut next = h;
+    next.flags.mark = true;
+    next
 }
 
 // A cancel of one thread: the mark set if an operation runs.
@@ -300,8 +295,7 @@ pub fn tick_thread(h: Thread) -> Thread
     if !h.flags.ipc {
         return h;
     }
-    Thread {
-        left: fall_by_one(h.left),
-        ..h
-    }
+    let mut next = h;
+    next.left = fall_by_one(h.left);
+    next
 }

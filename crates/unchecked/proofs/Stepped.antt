@@ -32,7 +32,7 @@ use Rattle.laws.proofs.Store.{step-store}
 use Rattle.laws.proofs.Refusals.{accepted-step}
 use Rattle.formed.proofs.Facts.{count_small, queue-small}
 use Rattle.formed.proofs.Formed.{Formed}
-use Rattle.formed.proofs.Neighbours.{number, sends-in_check, sends-in_copy, target-in_lock, target-in_check, target-in_copy, target-in_release, woken_in_wake, woken_in_unlock, queued-sends, queued-at-target}
+use Rattle.formed.proofs.Neighbours.{below-nobody, number, sends-in_check, sends-in_copy, target-in_lock, target-in_check, target-in_copy, target-in_release, woken_in_wake, woken_in_unlock, queued-sends, queued-at-target}
 use Rattle.invariant.proofs.Keeps.{found-formed}
 use Rattle.actions.specs.declared.Change.{Change}
 use Rattle.actions.specs.declared.Ending.{Ending}
@@ -40,10 +40,11 @@ use Rattle.actions.specs.declared.Ending.TheVariants.{SendCancelled, SendTimeOve
 use Rattle.actions.specs.Acted.{own_changed, other_changed, action_of, Acted}
 use Rattle.actions.proofs.Endings.{told-fields, told-ending}
 use Rattle.endings.specs.Ended.{Ended, Waits, ends_send}
-use Rattle.phases.specs.Fit.{partner, Fit, word_added, words_after}
+use Rattle.phases.specs.Fit.{partner, found_as, Fit, FitAs, word_added, words_after}
 use Rattle.laws.proofs.Decisions.{in_number, copy-word, copy-calls, copy-sends}
 use Rattle.phases.proofs.Settled.{words-kept, words_copied}
 use Rattle.phases.proofs.Partners.{partner-in, alone-nobody, partner-unfound, partner-found}
+use Rattle.unchecked.specs.Places.{or_own}
 use Rattle.unchecked.proofs.Performed.{performed}
 
 -- where there is another thread, it is the one that is read
@@ -53,6 +54,15 @@ read-other o x k e = ap (λ (q : Option ℕ). unwrap_or q x) e
 -- where there is none, the own thread is
 read-own : (o : Option ℕ) (x : ℕ) → o ≡ None → unwrap_or o x ≡ x
 read-own o x e = ap (λ (q : Option ℕ). unwrap_or q x) e
+
+-- the same by a number, where nobody's tells none
+pub or-other : (o x n : ℕ) → n ≤ nobody → o < n → or_own o x ≡ o
+unfolding or_own
+or-other o x n few h = cond-false _ _ _ (ne_eqb o nobody (λ e. omega arith))
+
+pub or-own : (o x : ℕ) → o ≡ nobody → or_own o x ≡ x
+unfolding or_own
+or-own o x e = cond-true _ _ _ (eq-eqb _ _ e)
 
 -- ---- what a well-formed table tells of thread x and the other thread of its step
 module _ (t : Table) (F : Formed t.n (at t)) (x : ℕ) (xn : x < t.n) where
@@ -111,6 +121,13 @@ module _ (t : Table) (F : Formed t.n (at t)) (x : ℕ) (xn : x < t.n) where
   pub place-below : place < t.n
   place-below = ⊎_elim (λ a. rw (read-own (partner own) x a.0) xn) (λ l. rw (read-other (partner own) x _ l.0) l.1) other-or-alone
 
+  -- it is the one that the other thread's number tells
+  pub place-own : place ≡ or_own (other own) x
+  place-own = ⊎_elim
+      (λ a. read-own (partner own) x a.0 ∙ sym (or-own (other own) x (alone-nobody own a.0)))
+      (λ l. read-other (partner own) x _ l.0 ∙ sym (or-other (other own) x t.n (below-nobody F) l.1))
+      other-or-alone
+
   -- a thread that sends to its other thread waits there
   waits-at : own.flags.send ≡ true → partner own ≡ Some own.op.send.target → own.op.send.target < t.n → Waits x (at t place)
   waits-at sends is below =
@@ -130,6 +147,23 @@ module _ (t : Table) (F : Formed t.n (at t)) (x : ℕ) (xn : x < t.n) where
   fits = record {
     counts = λ e. count_small (F.own x xn) (sends-in_copy F x xn e);
     finds = λ e. partner-in own look e;
+  }
+
+  -- what the search has found is the other thread: no sender that is found has nobody's number
+  found-other : phase_of own.phase ≡ look → (o : maybe.Option ℕ) → find_sender own ≡ o → find_sender own ≡ found_as (other own)
+  unfolding found_as
+  found-other e maybe.none f = f ∙ sym (cond-true _ _ _ (eq-eqb (other own) nobody (other-in own look e ∙ ap (λ (o : maybe.Option ℕ). maybe.get_or o nobody) f)))
+  found-other e (maybe.some s) f =
+      let is : other own ≡ s = other-in own look e ∙ ap (λ (o : maybe.Option ℕ). maybe.get_or o nobody) f in
+      let below = (queued-sends F x s xn (found-queued own s f)).0 in
+      let few = below-nobody F in
+      f ∙ sym (ap (λ (o : ℕ). found_as o) is ∙ cond-false _ _ _ (ne_eqb s nobody (λ k. omega arith)))
+
+  -- so has it by the other thread's number
+  pub fits-as : FitAs (other own) own
+  fits-as = record {
+    counts = fits.counts;
+    finds = λ e. found-other e (find_sender own) refl;
   }
 
   -- ---- what the two threads come to in the table

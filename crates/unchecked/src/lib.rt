@@ -78,7 +78,7 @@ pub fn step_in(table: &mut Table, x: u8, store: &mut [u32]) -> Answer
     let change = phases::step_threads(x, o, own, other, &mut store[start..end]);
     if let Some(ending) = change.ending {
         // both are read again here, so that a step that ends nothing need not keep them
-        let both = endings::end_threads(x, ending, table.threads[i], table.threads[j]);
+        let both = endings::end_threads(x, Some(ending), table.threads[i], table.threads[j]);
         table.threads[j] = both.other;
         table.threads[i] = both.own;
         return change.answer;

@@ -21,14 +21,20 @@ returns-in-6 c =
 pub returns-in-1 : goal.returns-in-1
 returns-in-1 c = let both = told c.args.own _ (partner-target c.args.own (omega arith) (omega arith)) in record { partner = both.0; number = both.1 }
 
+pub returns-in-2 : goal.returns-in-2
+returns-in-2 c = let both = told c.args.own _ (partner-target c.args.own (omega arith) (omega arith)) in record { partner = both.0; number = both.1 }
+
+pub returns-in-3 : goal.returns-in-3
+returns-in-3 c = let both = told c.args.own _ (partner-target c.args.own (omega arith) (omega arith)) in record { partner = both.0; number = both.1 }
+
+pub returns-in-4 : goal.returns-in-4
+returns-in-4 c = let both = told c.args.own _ (partner-target c.args.own (omega arith) (omega arith)) in record { partner = both.0; number = both.1 }
+
 pub returns-in-7 : goal.returns-in-7
 returns-in-7 c = let both = told c.args.own _ (partner-woken c.args.own (omega arith) (omega arith)) in record { partner = both.0; number = both.1 }
 
+pub returns-in-8 : goal.returns-in-8
+returns-in-8 c = let both = told c.args.own _ (partner-woken c.args.own (omega arith) (omega arith)) in record { partner = both.0; number = both.1 }
+
 pub returns-in_default : goal.returns-in_default
 returns-in_default c = let both = told c.args.own _ (no_partner c.args.own (λ l. omega arith) (λ l. omega arith)) in record { partner = both.0; number = both.1 }
-
-pub returns-in_default-2 : goal.returns-in_default-2
-returns-in_default-2 c = let both = told c.args.own _ (no_partner c.args.own (λ l. omega arith) (λ l. omega arith)) in record { partner = both.0; number = both.1 }
-
-pub returns-in_default-3 : goal.returns-in_default-3
-returns-in_default-3 c = let both = told c.args.own _ (no_partner c.args.own (λ l. omega arith) (λ l. omega arith)) in record { partner = both.0; number = both.1 }

@@ -1,12 +1,11 @@
-use Rattle.replies.specs.Replied.{names_word}
-use Rattle.replies.proofs.Said.{names_some}
+use Rattle.std.proofs.Common.{sym, ◌∙◌}
+use Rattle.replies.proofs.Said.{names_none, names_some}
 use Rattle.replies.proofs.names_word.Goals as goal
 
 -- what is no number
-pub returns-in-NotNumber : goal.returns-in-NotNumber
-unfolding names_word
-returns-in-NotNumber c = rw c.in-NotNumber.is
+pub returns-then-reason-from : goal.returns-then-reason-from
+returns-then-reason-from c = names_none _ _ (c.if-reason-from.true ∙ c.from.ensures)
 
 -- another reason
-pub returns-in_default : goal.returns-in_default
-returns-in_default c = rw c.is_empty.ensures (names_some _ _ c.in_default.not-NotNumber)
+pub returns : goal.returns
+returns c = rw c.is_empty.ensures (names_some _ _ (λ e. c.if-reason-from.false (e ∙ sym c.from.ensures)))

@@ -1,4 +1,4 @@
-use Rattle.endings.proofs.end_threads.Goals as goal
+use Rattle.endings.proofs.end_both.Goals as goal
 
 pub returns-in-ReceiveCancelled : goal.returns-in-ReceiveCancelled
 returns-in-ReceiveCancelled c = rw c.in-ReceiveCancelled.is (c.abort_receive.ensures c.args.x)
