@@ -1,6 +1,7 @@
 // The loop over the records.
 ghost use Rattle.std.specs.Prelude.{◌≡◌, ◌≤◌, ◌<◌, length};
 ghost use Rattle.model.specs.RecordBytes.{longest_record};
+ghost use Rattle.step_printing.specs.Modes.{mode_of};
 
 use crate::lines::print_thread;
 use crate::taken::Taken;
@@ -20,6 +21,9 @@ pub enum Mode {
 
 // The mode of a number: any but those of the other two prints every field.
 impl From<u8> for Mode {
+    ghost from_gives = { λ number result. result ≡ mode_of number };
+
+    #[tactic(auto, unfolding(crate::specs::Modes::mode_of))]
     fn from(number: u8) -> Mode {
         match number {
             1 => Mode::Words,
