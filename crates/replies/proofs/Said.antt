@@ -2,12 +2,16 @@
 use Rattle.std.proofs.Common.{◌≢◌, ◌≡◌, refl, sym, ◌∙◌, ap, true, false, not, List, [], ◌∷◌, ◌++◌, append_assoc, append-nil, ℕ, zero, suc, ◌≤◌, eqb, length, drop, arith}
 use Rattle.std.proofs.Math.ListN.{get_or-eq_default}
 use Rattle.std.proofs.Math.Seq.{drop-nil}
+use Rattle.std.proofs.lemmas.Bool.{eqb-false}
 use borrow.Author.Tests.{eq-eqb, ne_eqb}
 use Rattle.model.specs.Lists.{up_to}
 use Rattle.model.specs.Schedule.{is_empty}
 use Rattle.model.specs.Bondtrace.{ascii}
 use Rattle.language.specs.Words.{words}
 use Rattle.language.specs.Commands.{not_number, reasons, reason_text}
+use Rattle.letters.specs.declared.Reason.{Reason}
+use Rattle.letters.specs.declared.Reason.TheVariants.{NoCommand, NoField, NoPart, Missing, NotNumber, TooLarge, TooSmall, TooMuch, TooLong, NotRecord, TableFirst, NoChoice, RowsFull, LogFull}
+use Rattle.letters.specs.Measured.{number_of}
 use Rattle.scanning.specs.Scanned.{Found, between}
 use Rattle.text.specs.declared.Text.{Text}
 use Rattle.text.specs.Writing.{written}
@@ -45,10 +49,10 @@ module _ (reason : ℕ) (word : List ℕ) where
   unfolding names_word
   names_none e = rw (eq-eqb reason not_number e)
 
-  -- of another reason a word is
-  pub names_some : reason ≢ not_number → not (eqb (length word) 0) ≡ names_word reason word
+  -- of another number a word is
+  pub names_other : reason ≢ not_number → not (eqb (length word) 0) ≡ names_word reason word
   unfolding names_word
-  names_some n = rw (ne_eqb reason not_number n, no_byte)
+  names_other n = rw (ne_eqb reason not_number n, no_byte)
 
   -- it is named
   pub named : names_word reason word ≡ true → named_word reason word ≡ ascii ": " ++ word
@@ -59,6 +63,27 @@ module _ (reason : ℕ) (word : List ℕ) where
   pub not_named : names_word reason word ≡ false → named_word reason word ≡ []
   unfolding named_word
   not_named e = rw e
+
+-- only one reason has the number of `not a number`
+other-reason : (reason : Reason) → reason ≢ NotNumber → eqb (number_of reason) not_number ≡ false
+other-reason NoCommand d = refl
+other-reason NoField d = refl
+other-reason NoPart d = refl
+other-reason Missing d = refl
+other-reason NotNumber d = absurd (d refl)
+other-reason TooLarge d = refl
+other-reason TooSmall d = refl
+other-reason TooMuch d = refl
+other-reason TooLong d = refl
+other-reason NotRecord d = refl
+other-reason TableFirst d = refl
+other-reason NoChoice d = refl
+other-reason RowsFull d = refl
+other-reason LogFull d = refl
+
+-- so of another reason a word is named
+pub names_some : (reason : Reason) (word : List ℕ) → reason ≢ NotNumber → not (eqb (length word) 0) ≡ names_word (number_of reason) word
+names_some reason word d = names_other (number_of reason) word (eqb-false (number_of reason) not_number (other-reason reason d))
 
 -- ---- the words of a line from a place on, by the first that is found
 module _ {line : List ℕ} {from start end : ℕ} (f : Found line from start end) where
