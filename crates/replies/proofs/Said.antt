@@ -10,7 +10,7 @@ use Rattle.model.specs.Bondtrace.{ascii}
 use Rattle.language.specs.Words.{words}
 use Rattle.language.specs.Commands.{not_number, reasons, reason_text}
 use Rattle.letters.specs.declared.Reason.{Reason}
-use Rattle.letters.specs.declared.Reason.TheVariants.{NoCommand, NoField, NoPart, Missing, NotNumber, TooLarge, TooSmall, TooMuch, TooLong, NotRecord, TableFirst, NoChoice, RowsFull, LogFull}
+use Rattle.letters.specs.declared.Reason.TheVariants.{NotNumber}
 use Rattle.letters.specs.Measured.{number_of}
 use Rattle.scanning.specs.Scanned.{Found, between}
 use Rattle.text.specs.declared.Text.{Text}
@@ -66,20 +66,8 @@ module _ (reason : ℕ) (word : List ℕ) where
 
 -- only one reason has the number of `not a number`
 other-reason : (reason : Reason) → reason ≢ NotNumber → eqb (number_of reason) not_number ≡ false
-other-reason NoCommand d = refl
-other-reason NoField d = refl
-other-reason NoPart d = refl
-other-reason Missing d = refl
 other-reason NotNumber d = absurd (d refl)
-other-reason TooLarge d = refl
-other-reason TooSmall d = refl
-other-reason TooMuch d = refl
-other-reason TooLong d = refl
-other-reason NotRecord d = refl
-other-reason TableFirst d = refl
-other-reason NoChoice d = refl
-other-reason RowsFull d = refl
-other-reason LogFull d = refl
+other-reason _ d = refl
 
 -- so of another reason a word is named
 pub names_some : (reason : Reason) (word : List ℕ) → reason ≢ NotNumber → not (eqb (length word) 0) ≡ names_word (number_of reason) word
